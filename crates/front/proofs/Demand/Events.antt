@@ -1,0 +1,106 @@
+-- A collapse and a split on a tidied front keep the rings, and pay for themselves.
+use mathlib.Core.Path.{_≡_, refl, sym, ap, _∙_, subst}
+use mathlib.Core.Logic.{_≢_}
+use mathlib.Core.Bool.{Bool, true, false, cond, true≢false}
+use mathlib.Core.List.{List}
+use Prim.Native.Nat.{ℕ, suc, _+_, _<_}
+use native.Mathlib.Omega.{arith}
+use lib.Dec.{ltb}
+use lib.Ieee.{Float}
+use Rattle.plane.specs.declared.PlanarPoint.{PlanarPoint}
+use Rattle.front.specs.declared.Edge.{Edge}
+use Rattle.front.specs.declared.Vertex.{Vertex}
+use Rattle.front.specs.declared.Vertex.the-variants.{NoVertex, Moving}
+use Rattle.front.specs.Edges.{edge, set-start, remove, vertex, moved, lost, anchor-at, anchor, then-remove, collapse}
+use Rattle.front.specs.Splitting.{free-step, free, one-ring, split-linked}
+use Rattle.front.specs.Demand.{Links, bit, links}
+use Rattle.front.proofs.Demand.Links
+use Rattle.front.proofs.Demand.Steps
+use Rattle.front.proofs.Demand.Links.{Out, Met, RingsOf, live-next, live-prev, prev-next, Same, out-after}
+use Rattle.front.proofs.Demand.Steps.{Parted}
+use Rattle.front.proofs.Demand.Views.{live-in, remove-length, start-same, start-length, split-length, split-met}
+use Rattle.loops.proofs.Laws.{rounds-keep}
+use Rattle.front.proofs.Demand.Kept.{Kept, out-of, starts, one-ring-same}
+use Rattle.front.proofs.Demand.Tidying.{Tidied}
+
+-- ---- a collapse
+
+collapse-at : (f : List Edge) (events bound x s : ℕ) (t : Float) → Tidied f events bound → links f .live x ≡ 1 → (v : Vertex)
+    → (then-remove x (anchor-at f s t v)) .lost ≡ false → Kept ((then-remove x (anchor-at f s t v)) .edges) (suc events) bound
+unfolding then-remove anchor-at moved lost
+collapse-at f events bound x s t k a NoVertex = λ q. absurd (true≢false q)
+collapse-at f events bound x s t k a (Moving p v) = λ q.
+    let g : List Edge = set-start f s p t in
+    let z : Same (links f) (links g) = start-same f (k .kept .size) s p t in
+    let u : Out (links g) (links (remove g x)) x = out-of g events bound x (starts f events bound s p t (k .kept)) (z .lives x ∙ a) in
+    record {
+      held = Steps.collapse 128 (links f) (links (remove g x)) events bound x (k .kept .held) (k .clean) a (out-after (links f) (links g) (links (remove g x)) x z u);
+      size = remove-length g x (start-length f s p t (k .kept .size));
+    }
+
+pub collapse-law : (f : List Edge) (events bound x : ℕ) (t : Float) → Tidied f events bound → links f .live x ≡ 1
+    → (collapse f x t) .lost ≡ false → Kept ((collapse f x t) .edges) (suc events) bound
+unfolding collapse anchor
+collapse-law f events bound x t k a = collapse-at f events bound x ((edge f x) .next) t k a (vertex f ((edge f x) .next) t)
+
+-- ---- a split
+
+free-turn : (f : List Edge) (k s : ℕ) → (s < 128 → links f .live s ≡ 0) → free-step f k s < 128 → links f .live (free-step f k s) ≡ 0
+unfolding free-step
+free-turn f k s h = go (ltb s 128) refl ((edge f k) .alive) refl
+  where
+    go : (b : Bool) → ltb s 128 ≡ b → (c : Bool) → (edge f k) .alive ≡ c → cond b s (cond c 128 k) < 128 → links f .live (cond b s (cond c 128 k)) ≡ 0
+    go true q c e = h
+    go false q true e = λ l. absurd (omega arith)
+    go false q false e = λ l. ap bit e
+
+-- the slot found, if one is, is not alive
+pub free-law : (f : List Edge) → free f < 128 → links f .live (free f) ≡ 0
+unfolding free
+free-law f = rounds-keep (free-step f) (λ i s. s < 128 → links f .live s ≡ 0) 128 (λ h. absurd (omega arith)) (free-turn f) 128
+
+-- what the event search owes: live edges, the one hit neither the vertex's own nor the one before it
+pub record Hits (f : List Edge) (v e : ℕ) : Type 0 where
+  pub vertex : links f .live v ≡ 1
+  pub hit : links f .live e ≡ 1
+  pub other : e ≢ v
+  pub off : e ≢ (edge f v) .previous
+
+abbrev pub Parts : ℕ → ℕ → Bool → List Edge → Type 0
+Parts events bound true g = Kept g (suc events) bound
+Parts events bound false g = Kept g events (bound + 3)
+
+live-apart : (f : List Edge) (x s : ℕ) → links f .live x ≡ 1 → links f .live s ≡ 0 → x ≢ s
+live-apart f x s a z q = omega (arith, ap (links f .live) q)
+
+pub split-law : (f : List Edge) (events bound v e s : ℕ) (p : PlanarPoint) (t : Float) → Tidied f events bound → Hits f v e → s < 128 → links f .live s ≡ 0
+    → Parts events bound (one-ring f v e) (split-linked f v e s ((edge f v) .previous) (edge f e) p t)
+split-law f events bound v e s p t k w h z =
+    subst (λ (b : Bool). Parts events bound b g) (sym (one-ring-same f events bound v e (k .kept) (w .vertex) (w .other)))
+    (sized (Links.one-ring 128 (links f) v e)
+    (Steps.split 128 (links f) (links g) events bound v e s (k .kept .held)
+    (record { vertex = w .vertex; edge = w .hit; apart = w .other; off = w .off; free = z; slot = h })
+    met))
+  where
+    g : List Edge
+    g = split-linked f v e s ((edge f v) .previous) (edge f e) p t
+
+    R : RingsOf (links f) (k .kept .held .rs)
+    R = k .kept .held .rings
+
+    ab : links f .live ((edge f v) .previous) ≡ 1
+    ab = live-prev (links f) (k .kept .held .rs) R v (w .vertex)
+
+    an : links f .live ((edge f e) .next) ≡ 1
+    an = live-next (links f) (k .kept .held .rs) R e (w .hit)
+
+    met : Met (links f) (links g) v e s
+    met = split-met f v e s p t (k .kept .size) h
+        (live-in f ((edge f v) .previous) ab) (live-in f ((edge f e) .next) an) (live-in f e (w .hit)) (live-in f v (w .vertex))
+        (live-apart f ((edge f v) .previous) s ab z) (live-apart f ((edge f e) .next) s an z) (live-apart f e s (w .hit) z) (live-apart f v s (w .vertex) z)
+        (λ q. w .off (sym q))
+        (λ q. w .off (sym (prev-next (links f) (k .kept .held .rs) R e (w .hit)) ∙ ap (links f .prev) q))
+
+    sized : (b : Bool) → Parted 128 (links g) events bound b → Parts events bound b g
+    sized true i = record { held = i; size = split-length f v e s ((edge f v) .previous) (edge f e) p t (k .kept .size) }
+    sized false i = record { held = i; size = split-length f v e s ((edge f v) .previous) (edge f e) p t (k .kept .size) }

@@ -1,0 +1,355 @@
+-- Tidying keeps the rings, and ends with three edges or more in each.
+use mathlib.Core.Path.{_≡_, refl, sym, ap, _∙_, subst}
+use mathlib.Core.Logic.{_≢_}
+use mathlib.Core.Bool.{Bool, true, false, cond, not, _&&_, _||_, true≢false, false≢true}
+use mathlib.Core.List.{List, [], _∷_}
+use Prim.Native.Nat.{ℕ, suc, _+_, _≤_, _<_}
+use native.Mathlib.Omega.{arith}
+use lib.Dec.{ltb}
+use lib.Ieee.{Float, lt, le}
+use borrow.Author.Tests.{ltb-true, ltb-false, eq-eqb, ne-eqb}
+use lib.ListN.{length}
+use Rattle.plane.specs.declared.PlanarPoint.{PlanarPoint}
+use Rattle.front.specs.declared.Edge.{Edge}
+use Rattle.front.specs.declared.Vertex.{Vertex}
+use Rattle.front.specs.declared.Vertex.the-variants.{NoVertex, Moving}
+use Rattle.front.specs.declared.Length.{Length}
+use Rattle.front.specs.declared.Length.the-variants.{NoLength, Long}
+use Rattle.front.specs.declared.Tidy.{Tidy}
+use Rattle.front.specs.declared.Tidy.the-variants.{Settled, SmallRing, Straight, Spike, Empty}
+use Rattle.front.specs.declared.Front.{Front}
+use Rattle.math.specs.Number.{one, add, mul, zero-float, abs}
+use Rattle.front.specs.Thresholds.{parallel, opposite, on-edge, tie}
+use Rattle.plane.specs.Plane.{dot, cross}
+use Rattle.loops.specs.Loop.{rounds}
+use Rattle.front.specs.Edges.{edge, set-start, kill, remove, ring-len, vertex, moved, lost, anchor-at, anchor, then-remove, collapse, edge-length}
+use Rattle.front.specs.Lines.{along as direction, meeting}
+use Rattle.front.specs.Tidying.{tidy-length, tidy-turn, tidy-edge, tidy-at, unless-found, find-step, find-tidy, Drop, drop-on, drop-step, drop-ring, drop-straight, meeting-or, drop-both, spike-to, spike-from, drop-spike, tidy-by, tidy-once, tidy-step, tidy}
+use Rattle.front.specs.Demand.{Links, bit, links}
+use Rattle.front.proofs.Demand.Links
+use Rattle.front.proofs.Demand.Steps
+use Rattle.loops.proofs.Laws.{stays-to, rounds-keep}
+use Rattle.front.proofs.Demand.Occ.{by-cases, occ-cons, same-eq}
+use Rattle.front.proofs.Demand.Rings.{ring, edges}
+use Rattle.front.proofs.Demand.Total.{edges-le}
+use Rattle.front.proofs.Demand.Links.{Dropped, RingsOf, From, from, alone, ring-len-is, live-next}
+use Rattle.front.proofs.Demand.Sets.{SetDead, drop-by-one, drop-by-two}
+use Rattle.front.proofs.Demand.Views.{live-in, alive-of, dead-set, kill-length, start-same}
+use Rattle.front.proofs.Demand.Kept.{Kept, Less, less-of, out-of, removes, starts, ring-len-same}
+
+-- ---- the first slot at which something is wrong
+
+module _ (f : List Edge) (t : Float) where
+  -- what a finding says, of a slot
+  abbrev At : ℕ → Tidy → Type 0
+  At x Settled = links f .live x ≡ 1 → 3 ≤ ring-len f x
+  At x (SmallRing k) = (links f .live k ≡ 1) × (ring-len f k < 3)
+  At x (Straight k) = (links f .live k ≡ 1) × (3 ≤ ring-len f k)
+  At x (Spike k) = (links f .live k ≡ 1) × (3 ≤ ring-len f k)
+  At x (Empty k) = (links f .live k ≡ 1) × (3 ≤ ring-len f k)
+
+  either : (x : ℕ) (b : Bool) (p q : Tidy) → At x p → At x q → At x (cond b p q)
+  either x true p q h k = h
+  either x false p q h k = k
+
+  at-length : (x : ℕ) (l : Length) → links f .live x ≡ 1 → 3 ≤ ring-len f x → At x (tidy-length x t l)
+  unfolding tidy-length
+  at-length x NoLength a h = λ b. h
+  at-length x (Long l rate) a h = either x (le l (mul on-edge (add one t)) && le rate tie) (Empty x) Settled (a, h) (λ b. h)
+
+  at-turn : (x : ℕ) (u w : PlanarPoint) → links f .live x ≡ 1 → 3 ≤ ring-len f x → At x (tidy-turn f x t u w)
+  unfolding tidy-turn
+  at-turn x u w a h =
+      let r : Tidy = tidy-length x t (edge-length f x t) in
+      let s : Tidy = cond (lt (abs (cross u w)) parallel && lt zero-float (dot u w)) (Straight x) r in
+      either x (lt (add one (dot u w)) opposite) (Spike x) s (a, h)
+      (either x (lt (abs (cross u w)) parallel && lt zero-float (dot u w)) (Straight x) r (a, h) (at-length x (edge-length f x t) a h))
+
+  at-edge : (x : ℕ) (e : Edge) → links f .live x ≡ 1 → At x (tidy-edge f x t e)
+  unfolding tidy-edge
+  at-edge x e a = go (ltb (ring-len f x) 3) refl
+    where
+      w : Tidy
+      w = tidy-turn f x t (direction (e .line)) (direction ((edge f (e .next)) .line))
+
+      go : (b : Bool) → ltb (ring-len f x) 3 ≡ b → At x (cond b (SmallRing x) w)
+      go true q = (a, ltb-true (ring-len f x) 3 q)
+      go false q = at-turn x (direction (e .line)) (direction ((edge f (e .next)) .line)) a (ltb-false (ring-len f x) 3 q)
+
+  at-slot : (x : ℕ) → At x (tidy-at f x t (edge f x))
+  unfolding tidy-at
+  at-slot x = go ((edge f x) .alive) refl
+    where
+      go : (b : Bool) → (edge f x) .alive ≡ b → At x (cond b (tidy-edge f x t (edge f x)) Settled)
+      go true q = at-edge x (edge f x) (ap bit q)
+      go false q = λ a. absurd (omega (arith, ap bit q))
+
+  -- after i slots
+  abbrev Found : ℕ → Tidy → Type 0
+  Found i Settled = (r : ℕ) → r < i → links f .live r ≡ 1 → 3 ≤ ring-len f r
+  Found i (SmallRing k) = (links f .live k ≡ 1) × (ring-len f k < 3)
+  Found i (Straight k) = (links f .live k ≡ 1) × (3 ≤ ring-len f k)
+  Found i (Spike k) = (links f .live k ≡ 1) × (3 ≤ ring-len f k)
+  Found i (Empty k) = (links f .live k ≡ 1) × (3 ≤ ring-len f k)
+
+  found-on : (i : ℕ) (s r : Tidy) → Found i s → At i r → Found (suc i) (unless-found s r)
+  unfolding unless-found
+  found-on i Settled Settled h k = λ r l a. by-cases r i
+      (λ q. subst (λ (j : ℕ). 3 ≤ ring-len f j) (sym q) (k (ap (links f .live) (sym q) ∙ a)))
+      (λ d. h r (omega arith) a)
+  found-on i Settled (SmallRing x) h k = k
+  found-on i Settled (Straight x) h k = k
+  found-on i Settled (Spike x) h k = k
+  found-on i Settled (Empty x) h k = k
+  found-on i (SmallRing x) r h k = h
+  found-on i (Straight x) r h k = h
+  found-on i (Spike x) r h k = h
+  found-on i (Empty x) r h k = h
+
+  found : Found 128 (find-tidy f t)
+  unfolding find-tidy find-step
+  found = rounds-keep (find-step f t) Found Settled (λ r l a. absurd (omega arith)) (λ i s h. found-on i s (tidy-at f i t (edge f i)) h (at-slot i)) 128
+
+-- ---- a small ring dropped
+
+module _ (f : List Edge) (l : length f ≡ 128) (x : ℕ) where
+  abbrev n : ℕ
+  n = (edge f x) .next
+
+  abbrev whole : Drop
+  whole = record { edges = f; at = x; closed = false }
+
+  done-one : Drop
+  done-one = record { edges = kill f x; at = n; closed = true }
+
+  half : Drop
+  half = record { edges = kill f x; at = n; closed = false }
+
+  done-two : Drop
+  done-two = record { edges = kill (kill f x) n; at = (edge (kill f x) n) .next; closed = true }
+
+  turn-one : n ≡ x → drop-step x 0 whole ≡ done-one
+  unfolding drop-step drop-on done-one
+  turn-one q = ap (λ (b : Bool). record { edges = kill f x; at = n; closed = b || not ((edge (kill f x) n) .alive) }) (eq-eqb n x q)
+
+  turn-half : n ≢ x → (edge (kill f x) n) .alive ≡ true → drop-step x 0 whole ≡ half
+  unfolding drop-step drop-on half
+  turn-half d a =
+      ap (λ (b : Bool). record { edges = kill f x; at = n; closed = b || not ((edge (kill f x) n) .alive) }) (ne-eqb n x d)
+      ∙ ap (λ (b : Bool). record { edges = kill f x; at = n; closed = not b }) a
+
+  turn-two : (edge (kill f x) n) .next ≡ x → drop-step x 1 half ≡ done-two
+  unfolding drop-step drop-on half done-two
+  turn-two q =
+      let g : List Edge = kill (kill f x) n in
+      let m : ℕ = (edge (kill f x) n) .next in
+      ap (λ (b : Bool). record { edges = g; at = m; closed = b || not ((edge g m) .alive) }) (eq-eqb m x q)
+
+  stay-one : (k : ℕ) → drop-step x k done-one ≡ done-one
+  unfolding drop-step done-one
+  stay-one k = refl
+
+  stay-two : (k : ℕ) → drop-step x k done-two ≡ done-two
+  unfolding drop-step done-two
+  stay-two k = refl
+
+  drop-is-one : n ≡ x → drop-ring f x ≡ kill f x
+  unfolding drop-ring rounds done-one
+  drop-is-one q = ap (λ (s : Drop). s .edges) (stays-to (drop-step x) whole done-one 1 128 (omega arith) (turn-one q) stay-one)
+
+  drop-is-two : n ≢ x → (edge (kill f x) n) .alive ≡ true → (edge (kill f x) n) .next ≡ x → drop-ring f x ≡ kill (kill f x) n
+  unfolding drop-ring rounds done-two
+  drop-is-two d a q =
+      ap (λ (s : Drop). s .edges) (stays-to (drop-step x) whole done-two 2 128 (omega arith) (ap (drop-step x 1) (turn-half d a) ∙ turn-two q) stay-two)
+
+  -- what is left of a ring of one edge or two: nothing
+  drop-dropped : x < 128 → n < 128 → links f .live n ≡ 1 → (edge f n) .next ≡ x → Dropped (links f) (links (drop-ring f x)) x × (length (drop-ring f x) ≡ 128)
+  drop-dropped hx hn a q = by-cases n x
+      (λ s. subst (λ (g : List Edge). Dropped (links f) (links g) x × (length g ≡ 128)) (sym (drop-is-one s))
+      (drop-by-one (links f) (links (kill f x)) x dead-x s, kill-length f x l))
+      (λ d. subst (λ (g : List Edge). Dropped (links f) (links g) x × (length g ≡ 128))
+      (sym (drop-is-two d (alive-of ((edge (kill f x) n) .alive) (dead-x .lives .there n d ∙ a)) (dead-x .nexts n ∙ q))) (
+        drop-by-two (links f) (links (kill f x)) (links (kill (kill f x) n)) x dead-x (dead-set (kill f x) (kill-length f x l) n hn) d,
+        kill-length (kill f x) n (kill-length f x l),
+      ))
+    where
+      dead-x : SetDead (links f) (links (kill f x)) x
+      dead-x = dead-set f l x hx
+
+-- ---- one step mended
+
+-- a step that lost no vertex left fewer edges
+abbrev Mended : Front → ℕ → ℕ → ℕ → Type 0
+Mended s events bound m = s .lost ≡ false → Less (s .edges) events bound m
+
+anchored : (f : List Edge) (events bound s x : ℕ) (t : Float) (k : Kept f events bound) → links f .live x ≡ 1 → (v : Vertex)
+    → Mended (then-remove x (anchor-at f s t v)) events bound (edges (k .held .rs))
+unfolding then-remove anchor-at moved lost starts
+anchored f events bound s x t k a NoVertex = λ q. absurd (true≢false q)
+anchored f events bound s x t k a (Moving p v) = λ q.
+    removes (set-start f s p t) events bound x (starts f events bound s p t k) (start-same f (k .size) s p t .lives x ∙ a)
+
+-- an edge of a ring of three is not its own next
+apart : (f : List Edge) (events bound x : ℕ) (k : Kept f events bound) → links f .live x ≡ 1 → 3 ≤ ring-len f x → x ≢ (edge f x) .next
+apart f events bound x k a h =
+    go (w .others) (w .rings) (omega (arith, ring-len-same f events bound x k a, ring-len-is 128 (links f) x (w .others) (w .rest) (w .rings) (k .held .slots)))
+  where
+    w : From (links f) x (k .held .rs)
+    w = from (links f) x (k .held .rs) (k .held .rings) a
+
+    go : (xs : List ℕ) → RingsOf (links f) (ring x xs ∷ w .rest) → 3 ≤ suc (length xs) → x ≢ (edge f x) .next
+    go [] R l = absurd (omega arith)
+    go (y ∷ ys) R l = λ q. omega (arith, alone (links f) x (y ∷ ys) (w .rest) R .0, occ-cons x y ys, same-eq x y (q ∙ R .linked .0 .0))
+
+both-gone : (f : List Edge) (events bound x : ℕ) (p : PlanarPoint) (t : Float) (k : Kept f events bound) → links f .live x ≡ 1 → 3 ≤ ring-len f x
+    → Mended (drop-both f x ((edge f x) .next) ((edge f ((edge f x) .next)) .next) p t) events bound (edges (k .held .rs))
+unfolding drop-both moved starts
+both-gone f events bound x p t k a h = λ q.
+    let n : ℕ = (edge f x) .next in
+    let an : links f .live n ≡ 1 = live-next (links f) (k .held .rs) (k .held .rings) x a in
+    let one : Less (remove f n) events bound (edges (k .held .rs)) = removes f events bound n k an in
+    let ax : links (remove f n) .live x ≡ 1 = out-of f events bound n k an .lives .there x (apart f events bound x k a h) ∙ a in
+    let two : Less (remove (remove f n) x) events bound (edges (one .kept .held .rs)) = removes (remove f n) events bound x (one .kept) ax in
+    record {
+      kept = starts (remove (remove f n) x) events bound ((edge f n) .next) p t (two .kept);
+      fewer = omega (arith, one .fewer, two .fewer);
+    }
+
+spike-to-gone : (f : List Edge) (events bound x before : ℕ) (t : Float) (p : PlanarPoint) (k : Kept f events bound) → links f .live x ≡ 1 → 3 ≤ ring-len f x → (v : Vertex)
+    → Mended (spike-to f x before ((edge f x) .next) ((edge f ((edge f x) .next)) .next) t p v) events bound (edges (k .held .rs))
+unfolding spike-to lost
+spike-to-gone f events bound x before t p k a h NoVertex = λ q. absurd (true≢false q)
+spike-to-gone f events bound x before t p k a h (Moving q w) =
+    both-gone f events bound x (meeting-or p q (meeting ((edge f before) .line) ((edge f ((edge f ((edge f x) .next)) .next)) .line) t)) t k a h
+
+spike-from-gone : (f : List Edge) (events bound x before : ℕ) (t : Float) (k : Kept f events bound) → links f .live x ≡ 1 → 3 ≤ ring-len f x → (v : Vertex)
+    → Mended (spike-from f x before ((edge f x) .next) ((edge f ((edge f x) .next)) .next) t v) events bound (edges (k .held .rs))
+unfolding spike-from lost
+spike-from-gone f events bound x before t k a h NoVertex = λ q. absurd (true≢false q)
+spike-from-gone f events bound x before t k a h (Moving p v) =
+    spike-to-gone f events bound x before t p k a h (vertex f ((edge f ((edge f x) .next)) .next) t)
+
+small-gone : (f : List Edge) (events bound x : ℕ) (k : Kept f events bound) → links f .live x ≡ 1 → ring-len f x < 3
+    → Less (drop-ring f x) events bound (edges (k .held .rs))
+small-gone f events bound x k a h =
+    less-of (drop-ring f x) events bound (edges (k .held .rs))
+    (Steps.drop-ring 128 (links f) (links (drop-ring f x)) events bound x (k .held) a (omega (arith, ring-len-same f events bound x k a)) (gone .0))
+    (gone .1)
+  where
+    an : links f .live ((edge f x) .next) ≡ 1
+    an = live-next (links f) (k .held .rs) (k .held .rings) x a
+
+    w : From (links f) x (k .held .rs)
+    w = from (links f) x (k .held .rs) (k .held .rings) a
+
+    round : (xs : List ℕ) → RingsOf (links f) (ring x xs ∷ w .rest) → suc (length xs) < 3 → (edge f ((edge f x) .next)) .next ≡ x
+    round [] R l = ap (links f .next) (R .linked .0 .0) ∙ R .linked .0 .0
+    round (y ∷ []) R l = ap (links f .next) (R .linked .0 .0) ∙ R .linked .0 .2 .0
+    round (y ∷ z ∷ zs) R l = absurd (omega arith)
+
+    gone : Dropped (links f) (links (drop-ring f x)) x × (length (drop-ring f x) ≡ 128)
+    gone = drop-dropped f (k .size) x (live-in f x a) (live-in f ((edge f x) .next) an) an
+        (round (w .others) (w .rings) (omega (arith, ring-len-same f events bound x k a, ring-len-is 128 (links f) x (w .others) (w .rest) (w .rings) (k .held .slots))))
+
+-- ---- the loop
+
+-- after i rounds that lost nothing: each took an edge or more out, until one found nothing wrong
+record Tried (events bound i : ℕ) (s : Front) : Type 0 where
+  kept : Kept (s .edges) events bound
+  left : s .changed ≡ true → edges (kept .held .rs) + i ≤ 128
+  clean : s .changed ≡ false → Links.Tidy 128 (links (s .edges))
+
+abbrev TriedAt : ℕ → ℕ → ℕ → Front → Type 0
+TriedAt events bound i s = s .lost ≡ false → Tried events bound i s
+
+module _ (events bound : ℕ) (t : Float) (f : List Edge) (k : Kept f events bound) (i : ℕ) (left : edges (k .held .rs) + i ≤ 128) where
+  mended-on : (s : Front) → s .changed ≡ true → Mended s events bound (edges (k .held .rs)) → TriedAt events bound (suc i) s
+  mended-on s c m q = record {
+    kept = m q .kept;
+    left = λ e. omega (arith, m q .fewer);
+    clean = λ e. absurd (true≢false (sym c ∙ e));
+  }
+
+  then-changed : (x : ℕ) (s : Front) → s .changed ≡ true → (then-remove x s) .changed ≡ true
+  unfolding then-remove moved
+  then-changed x s c = go (s .lost)
+    where
+      go : (b : Bool) → (cond b s (moved (remove (s .edges) x))) .changed ≡ true
+      go true = c
+      go false = refl
+
+  anchor-changed : (g : List Edge) (x : ℕ) (v : Vertex) → (anchor-at g x t v) .changed ≡ true
+  unfolding anchor-at moved lost
+  anchor-changed g x NoVertex = refl
+  anchor-changed g x (Moving p v) = refl
+
+  to-changed : (g : List Edge) (x before m after : ℕ) (p : PlanarPoint) (w : Vertex) → (spike-to g x before m after t p w) .changed ≡ true
+  unfolding spike-to lost drop-both moved
+  to-changed g x before m after p NoVertex = refl
+  to-changed g x before m after p (Moving q w) = refl
+
+  spike-changed : (g : List Edge) (x before m after : ℕ) (v : Vertex) → (spike-from g x before m after t v) .changed ≡ true
+  unfolding spike-from lost
+  spike-changed g x before m after NoVertex = refl
+  spike-changed g x before m after (Moving p v) = to-changed g x before m after p (vertex g after t)
+
+  once-case : (r : Tidy) → Found f t 128 r → TriedAt events bound (suc i) (tidy-by f t r)
+  unfolding tidy-by moved collapse anchor drop-straight drop-spike
+  once-case Settled h q = record {
+    kept = k;
+    left = λ e. absurd (false≢true e);
+    clean = λ e x a. subst (λ (m : ℕ). 3 ≤ m) (ring-len-same f events bound x k a) (h x (live-in f x a) a);
+  }
+  once-case (SmallRing x) h q = mended-on (moved (drop-ring f x)) refl (λ e. small-gone f events bound x k (h .0) (h .1)) q
+  once-case (Straight x) h q =
+      let m : ℕ = (edge f x) .next in
+      let v : Vertex = vertex f ((edge f m) .next) t in
+      mended-on (then-remove m (anchor-at f ((edge f m) .next) t v)) (then-changed m (anchor-at f ((edge f m) .next) t v) (anchor-changed f ((edge f m) .next) v))
+      (anchored f events bound ((edge f m) .next) m t k (live-next (links f) (k .held .rs) (k .held .rings) x (h .0)) v) q
+  once-case (Spike x) h q =
+      let m : ℕ = (edge f x) .next in
+      let v : Vertex = vertex f x t in
+      mended-on (spike-from f x ((edge f x) .previous) m ((edge f m) .next) t v) (spike-changed f x ((edge f x) .previous) m ((edge f m) .next) v)
+      (spike-from-gone f events bound x ((edge f x) .previous) t k (h .0) (h .1) v) q
+  once-case (Empty x) h q =
+      let m : ℕ = (edge f x) .next in
+      let v : Vertex = vertex f m t in
+      mended-on (then-remove x (anchor-at f m t v)) (then-changed x (anchor-at f m t v) (anchor-changed f m v)) (anchored f events bound m x t k (h .0) v) q
+
+module _ (events bound : ℕ) (t : Float) where
+  once-at : (f : List Edge) (i : ℕ) (k : Kept f events bound) → edges (k .held .rs) + i ≤ 128 → TriedAt events bound (suc i) (tidy-once f t)
+  unfolding tidy-once
+  once-at f i k left = once-case events bound t f k i left (find-tidy f t) (found f t)
+
+  step-case : (i : ℕ) (s : Front) → TriedAt events bound i s → TriedAt events bound (suc i) (tidy-step t i s)
+  unfolding tidy-step
+  step-case i s h = go (s .changed) refl (s .lost) refl
+    where
+      go : (c : Bool) → s .changed ≡ c → (b : Bool) → s .lost ≡ b → TriedAt events bound (suc i) (cond (c && not b) (tidy-once (s .edges) t) s)
+      go false qc b qb q = record { kept = h q .kept; left = λ e. absurd (false≢true (sym qc ∙ e)); clean = h q .clean }
+      go true qc true qb q = absurd (true≢false (sym qb ∙ q))
+      go true qc false qb q = once-at (s .edges) i (h qb .kept) (h qb .left qc) q
+
+-- a front with rings of three edges or more
+pub record Tidied (f : List Edge) (events bound : ℕ) : Type 0 where
+  pub kept : Kept f events bound
+  pub clean : Links.Tidy 128 (links f)
+
+-- tidying, where it loses no vertex, leaves rings of three edges or more
+pub tidy-law : (f : List Edge) (events bound : ℕ) (t : Float) → Kept f events bound → (tidy f t) .lost ≡ false → Tidied ((tidy f t) .edges) events bound
+unfolding tidy moved
+tidy-law f events bound t k = go (rounds (tidy-step t) 129 (moved f)) (rounds-keep (tidy-step t) (TriedAt events bound) (moved f) first (step-case events bound t) 129)
+  where
+    first : TriedAt events bound 0 (moved f)
+    first q = record {
+      kept = k;
+      left = λ e. omega (arith, edges-le (links f .next) (links f .prev) (links f .live) 128 (k .held .rs) (k .held .rings) (k .held .slots));
+      clean = λ e. absurd (true≢false e);
+    }
+
+    go : (s : Front) → TriedAt events bound 129 s → s .lost ≡ false → Tidied (s .edges) events bound
+    go s h q = settle (s .changed) refl
+      where
+        settle : (c : Bool) → s .changed ≡ c → Tidied (s .edges) events bound
+        settle false e = record { kept = h q .kept; clean = h q .clean e }
+        settle true e = absurd (omega (arith, h q .left e))

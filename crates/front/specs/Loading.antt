@@ -1,0 +1,63 @@
+-- offset.rs: the rings of a shape are loaded into the front, edge by edge. Assumes nothing.
+use Prim.Native.Nat.{ℕ, _+_, _-_}
+use mathlib.Core.Bool.{Bool, true, cond}
+use mathlib.Core.List.{List}
+use lib.Dec.{ltb, eqb}
+use lib.ListN.{set, replicate}
+use lib.Ieee.{Float}
+use Rattle.front.specs.declared.Edge.{Edge}
+use Rattle.front.specs.declared.Loaded.{Loaded}
+use Rattle.error.specs.declared.Refusal.the-variants.{Granted, Slots, Collapses}
+use Rattle.error.specs.declared.Refusal.{Refusal}
+use Rattle.plane.specs.declared.PlanarPoint.{PlanarPoint}
+use Rattle.front.specs.declared.Line.{Line}
+use Rattle.front.specs.declared.Through.{Through}
+use Rattle.front.specs.declared.Through.the-variants.{NoLine, Along}
+use Rattle.front.specs.Edges.{unused}
+use Rattle.plane.specs.Plane.{sub}
+use Rattle.ring.specs.Ring.{vertex-at, following}
+use Rattle.math.specs.Number.{zero-float}
+use Rattle.front.specs.Lines.{through}
+use Rattle.error.specs.Refusals.{granted}
+use Rattle.loops.specs.Loop.{rounds}
+
+unfoldable pub no-front : List Edge
+no-front = replicate 128 unused
+
+unfoldable pub loaded-nothing : Loaded
+loaded-nothing = record { edges = no-front; used = 0; refusal = Granted }
+
+unfoldable pub load-refused : Loaded → Refusal → Loaded
+load-refused s r = record { edges = s .edges; used = s .used; refusal = r }
+
+-- vertex k of a ring that is walked forwards or backwards, relative to the origin
+unfoldable pub load-vertex : List Float → ℕ → Bool → PlanarPoint → ℕ → PlanarPoint
+load-vertex ps n back origin k = sub (vertex-at ps (cond back (n - 1 - k) k)) origin
+
+unfoldable pub loaded-edge : Line → ℕ → ℕ → ℕ → PlanarPoint → Edge
+loaded-edge l first n k a =
+    record { line = l; previous = first + cond (eqb k 0) (n - 1) (k - 1); next = first + following n k; alive = true; start = a; since = zero-float }
+
+unfoldable pub load-line : Float → ℕ → ℕ → ℕ → PlanarPoint → Loaded → Through → Loaded
+load-line d first n k a s NoLine = load-refused s (Collapses d)
+load-line d first n k a s (Along l) =
+    cond (ltb (s .used) 128)
+    (record { edges = set (s .edges) (s .used) (loaded-edge l first n k a); used = s .used + 1; refusal = Granted })
+    (load-refused s (Slots (s .used + (n - k))))
+
+unfoldable pub load-edge : Float → ℕ → ℕ → ℕ → PlanarPoint → PlanarPoint → Loaded → Loaded
+load-edge d first n k a b s = load-line d first n k a s (through a b)
+
+unfoldable pub load-step : List Float → ℕ → Bool → PlanarPoint → Float → ℕ → ℕ → Loaded → Loaded
+load-step ps n back origin d first k s =
+    cond (granted (s .refusal))
+    (load-edge d first n k (load-vertex ps n back origin k) (load-vertex ps n back origin (following n k)) s)
+    s
+
+unfoldable pub load-ring : List Float → ℕ → Bool → PlanarPoint → Float → Loaded → Loaded
+load-ring ps n back origin d s = rounds (load-step ps n back origin d (s .used)) n s
+
+-- opens every definition above, for a proof that computes with all of them
+unfoldable pub open-loading : Unit {0}
+unfolding no-front loaded-nothing load-refused load-vertex loaded-edge load-line load-edge load-step load-ring
+open-loading = tt

@@ -1,0 +1,156 @@
+// The front of an offset: 128 edges, linked into rings, which move at unit speed until they come to the distance.
+
+pub mod edges;
+pub mod lines;
+
+use error::Refusal;
+use plane::PlanarPoint;
+
+// The line of an edge: unit direction u, left normal n, n · x = c.
+pub struct Line {
+    pub u0: f64,
+    pub u1: f64,
+    pub n0: f64,
+    pub n1: f64,
+    pub c: f64,
+}
+
+// An edge of the front, linked into its ring, with its start vertex as of the offset `since`.
+pub struct Edge {
+    pub line: Line,
+    pub previous: usize,
+    pub next: usize,
+    pub alive: bool,
+    pub start: PlanarPoint,
+    pub since: f64,
+}
+
+impl Edge {
+    pub const UNUSED: Edge = Edge {
+        line: Line {
+            u0: 1.0,
+            u1: 0.0,
+            n0: 0.0,
+            n1: 1.0,
+            c: 0.0,
+        },
+        previous: 0,
+        next: 0,
+        alive: false,
+        start: PlanarPoint {
+            east: 0.0,
+            north: 0.0,
+        },
+        since: 0.0,
+    };
+
+    // Lines closer to parallel than this, by the sine of the angle, are parallel.
+    pub const PARALLEL: f64 = 1e-12;
+
+    // Neighbours that face opposite ways closer than this, by one plus the cosine, enclose nothing.
+    pub const OPPOSITE: f64 = 1e-12;
+
+    // Slack for a split point at the very end of the edge that it hits.
+    pub const ON_EDGE: f64 = 1e-9;
+
+    // Relative offset within which two events count as simultaneous.
+    pub const TIE: f64 = 1e-12;
+}
+
+// A line, if the two points differ.
+pub enum Through {
+    NoLine,
+    Along(Line),
+}
+
+// A point or a velocity, if there is one.
+pub enum Place {
+    Nowhere,
+    There(PlanarPoint),
+}
+
+// A start vertex and its velocity, if it has one.
+pub enum Vertex {
+    NoVertex,
+    Moving(PlanarPoint, PlanarPoint),
+}
+
+// An edge's length and its rate of change, if its ends have velocities.
+pub enum Length {
+    NoLength,
+    Long(f64, f64),
+}
+
+// What a tidying step removes, and at which slot.
+pub enum Tidy {
+    Settled,
+    SmallRing(usize),
+    Straight(usize),
+    Spike(usize),
+    Empty(usize),
+}
+
+// The soonest collapse, and the soonest split, found so far.
+pub enum SoonestCollapse {
+    NoCollapse,
+    CollapseAfter(usize, f64),
+}
+
+pub enum SoonestSplit {
+    NoSplit,
+    SplitAfter(usize, usize, f64),
+}
+
+// The search for the next event.
+pub struct EventSearch {
+    pub lost: bool,
+    pub collapse: SoonestCollapse,
+    pub split: SoonestSplit,
+}
+
+// The next event, and how much further it lies. `Lost`: a vertex has no velocity; `Never`: nothing shrinks and nothing is hit.
+pub enum Event {
+    Lost,
+    Never,
+    Collapse(usize, f64),
+    Split(usize, usize, f64),
+}
+
+// A walk round a ring of the front: where it is, how many edges it has passed, and whether it has come round.
+pub struct Round {
+    pub at: usize,
+    pub count: usize,
+    pub closed: bool,
+}
+
+// A walk from one edge of the front that looks for another: it ends where it comes round or finds it.
+pub struct Reach {
+    pub at: usize,
+    pub found: bool,
+    pub closed: bool,
+}
+
+// The front, after a step that may lose a vertex; `changed`: whether tidying took something out.
+pub struct Front {
+    pub edges: [Edge; 128],
+    pub lost: bool,
+    pub changed: bool,
+}
+
+// The front while the rings load: the slots taken so far.
+pub struct Loaded {
+    pub edges: [Edge; 128],
+    pub used: usize,
+    pub refusal: Refusal,
+}
+
+// The front between two events: how far it has travelled, what it has completed, and whether it has come to the distance.
+pub struct Sweep {
+    pub edges: [Edge; 128],
+    pub travelled: f64,
+    pub collapses: usize,
+    pub divides: usize,
+    pub joins: usize,
+    pub ended: bool,
+    pub refusal: Refusal,
+}

@@ -1,0 +1,3 @@
+pub mod Contains
+pub mod Near
+pub mod Meet

@@ -1,0 +1,18 @@
+-- `math::min` meets its contract. Assumes nothing.
+use Rattle.math.specs.Number
+use borrow.Author.Needs.{needs}
+use Rattle.math.proofs.min.Statement.{statement}
+use Rattle.math.proofs.min.Tie as tie
+
+choose-requires : tie.Need-choose-requires
+choose-requires c κs = search needs
+
+choose-requires-2 : tie.Need-choose-requires-2
+choose-requires-2 c κs = search needs
+
+returns : tie.Need-returns
+unfolding Number.fmin
+returns c = cc
+
+pub min-spec : {M : Type 1} → statement M
+min-spec = tie.close (tie.spec choose-requires choose-requires-2 returns)

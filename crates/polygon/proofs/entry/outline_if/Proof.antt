@@ -1,0 +1,28 @@
+-- `polygon::entry::outline_if` meets its contract. Assumes nothing.
+use mathlib.Core.Path.{sym, _∙_}
+use Rattle.ring.proofs.Choices.{yes, no}
+use Rattle.polygon.specs.Outlines
+use borrow.Author.Needs.{needs}
+use Rattle.polygon.proofs.entry.outline_if.Statement.{statement}
+use Rattle.polygon.proofs.entry.outline_if.Tie as tie
+
+granted-requires : tie.Need-granted-requires
+granted-requires c κs = search needs
+
+new-outline-requires : tie.Need-new-outline-requires
+new-outline-requires c κs = search needs
+
+refused-requires : tie.Need-refused-requires
+refused-requires c κs = search needs
+
+returns : tie.Need-returns
+unfolding Outlines.outline-if
+returns c = yes _ _ _ _ (c .new-outline .ensures) (sym (c .before .before .granted .ensures) ∙ c .before .if1 .taken)
+
+returns-2 : tie.Need-returns-2
+unfolding Outlines.outline-if
+returns-2 c = no _ _ _ _ (c .refused .ensures) (sym (c .before .before .granted .ensures) ∙ c .before .if1 .left)
+
+pub outline-if-spec : {M : Type 1} → statement M
+outline-if-spec =
+    tie.close (tie.spec granted-requires new-outline-requires refused-requires returns returns-2)

@@ -1,0 +1,72 @@
+// What comes in from outside: questions 1 and 2 of numbers, and 21 of a shape.
+ghost use mathlib.Core.Path.{_≡_};
+ghost use Prim.Native.Nat.{_≤_};
+ghost use Rattle.polygon.specs.Outlines;
+use super::NewOutline;
+use super::store;
+use error::Refusal;
+
+pub fn finite_step(ps: &[f64], k: usize, r: Refusal) -> Refusal
+    ensures { λ x. ⌜ x ≡ Outlines.finite-step (now (ps .entry)) k r ⌝ }
+{
+    let here = error::choose(
+        math::finite(ring::number_at(ps, k)),
+        Refusal::Granted,
+        Refusal::NotFinite(k),
+    );
+    error::choose(r.granted(), here, r)
+}
+
+// Question 2: the first number that is not finite.
+pub fn check_finite(ps: &[f64]) -> Refusal
+    ensures { λ r. ⌜ r ≡ Outlines.check-finite (now (ps .entry)) ⌝ }
+{
+    let mut s = Refusal::Granted;
+    let mut k = 0;
+    while k < ps.len() {
+        s = finite_step(ps, k, s);
+        k += 1;
+    }
+    s
+}
+
+pub fn outline_if(ps: &[f64], r: Refusal) -> NewOutline
+    ensures { λ x. ⌜ x ≡ Outlines.outline-if (now (ps .entry)) r ⌝ }
+{
+    if r.granted() {
+        store::new_outline(ps, ps.len() / 2)
+    } else {
+        store::refused(r)
+    }
+}
+
+pub fn in_range_step(ps: &[f64], k: usize, s: bool) -> bool
+    ensures { λ r. ⌜ r ≡ Outlines.in-range-step (now (ps .entry)) k s ⌝ }
+{
+    s & (math::abs(ring::number_at(ps, k)) <= ringcheck::check::MAX_COORDINATE)
+}
+
+pub(crate) fn in_range(ps: &[f64], n: usize) -> bool
+    requires { ⌜ n ≤ 4096 ⌝ }
+    ensures { λ r. ⌜ r ≡ Outlines.in-range (now (ps .entry)) n ⌝ }
+{
+    let mut s = true;
+    let mut k = 0;
+    while k < 2 * n {
+        s = in_range_step(ps, k, s);
+        k += 1;
+    }
+    s
+}
+
+// Question 21 of a ring.
+pub(crate) fn proper(room: usize, ps: &[f64], n: usize) -> bool
+    requires { ⌜ room ≤ 4096 ⌝ }
+    ensures { λ r. ⌜ r ≡ Outlines.proper room (now (ps .entry)) n ⌝ }
+{
+    if n <= room {
+        (3 <= n) & in_range(ps, n)
+    } else {
+        false
+    }
+}

@@ -1,0 +1,53 @@
+// Outlines: the checks of a ring, what is asked of an outline. A ring is a list of numbers, two a vertex, east then north. An outline has room for 128 vertices.
+
+ghost use mathlib.Core.Path.{_≡_};
+ghost use Rattle.polygon.specs.Outlines;
+
+pub mod entry;
+pub mod query;
+pub mod store;
+
+use error::Refusal;
+use plane::Containment;
+use plane::PlanarPoint;
+
+// An outline: its first `count` vertices, counter-clockwise; the rest is 0.
+pub struct Outline {
+    pub points: [f64; 256],
+    pub count: usize,
+}
+
+// What a check of an outline or a region answers: the shape stands beside the refusal, and is empty unless granted.
+pub struct NewOutline {
+    pub refusal: Refusal,
+    pub shape: Outline,
+}
+
+// What a question about a shape and a point answers: 21 of the shape, 2 of the point, then the value.
+pub struct Placed {
+    pub refusal: Refusal,
+    pub place: Containment,
+}
+
+pub struct Measured {
+    pub refusal: Refusal,
+    pub value: f64,
+}
+
+pub struct Footed {
+    pub refusal: Refusal,
+    pub point: PlanarPoint,
+}
+
+impl Outline {
+    // The outline of these numbers: questions 1, 2 and 4 to 9.
+    pub fn new(ps: &[f64]) -> NewOutline
+        ensures { λ r. ⌜ r ≡ Outlines.outline (now (ps .entry)) ⌝ }
+    {
+        if ps.len() % 2 == 0 {
+            entry::outline_if(ps, entry::check_finite(ps))
+        } else {
+            store::refused(Refusal::Odd)
+        }
+    }
+}

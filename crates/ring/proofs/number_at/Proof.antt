@@ -1,0 +1,25 @@
+-- `ring::number_at` meets its contract. Assumes nothing.
+use mathlib.Core.Path.{_∙_}
+use Rattle.ring.proofs.Vertices.{past-end}
+use borrow.Author.Needs.{needs}
+use Rattle.ring.proofs.number_at.Statement.{statement}
+use Rattle.ring.proofs.number_at.Tie as tie
+
+mul-result : tie.Need-mul-result
+mul-result c = search needs
+
+shared-slice-read-result : tie.Need-shared-slice-read-result
+shared-slice-read-result c = search needs
+
+nan-requires : tie.Need-nan-requires
+nan-requires c κs = search needs
+
+returns : tie.Need-returns
+returns c = search needs
+
+returns-2 : tie.Need-returns-2
+returns-2 c = c .nan .ensures ∙ past-end (c .before .before .before .args .ps .now) (c .before .before .before .args .i) (search needs)
+
+pub number-at-spec : {M : Type 1} → statement M
+number-at-spec =
+    tie.close (tie.spec mul-result shared-slice-read-result nan-requires returns returns-2)

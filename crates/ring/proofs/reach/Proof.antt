@@ -1,0 +1,21 @@
+-- `ring::reach` meets its contract. Assumes nothing.
+use Rattle.ring.specs.Ring
+use borrow.Author.Needs.{needs}
+use Rattle.ring.proofs.reach.Statement.{statement}
+use Rattle.ring.proofs.reach.Tie as tie
+
+abs-requires : tie.Need-abs-requires
+abs-requires c κs = search needs
+
+abs-requires-2 : tie.Need-abs-requires-2
+abs-requires-2 c κs = search needs
+
+max-requires : tie.Need-max-requires
+max-requires c κs = search needs
+
+returns : tie.Need-returns
+unfolding Ring.reach
+returns c = cc
+
+pub reach-spec : {M : Type 1} → statement M
+reach-spec = tie.close (tie.spec abs-requires abs-requires-2 max-requires returns)
