@@ -30,7 +30,7 @@ use Rattle.region.specs.Regions.{open-regions}
 use Rattle.region.specs.Checks.{open-checks as open-region-checks}
 use Rattle.region.specs.Insets.{open-insets}
 use Rattle.region.specs.Queries.{open-queries as open-region-queries}
-use Rattle.examples.specs.Table.{Row, row-at, table, answer, Examples, refusal-of, outline-ring, hole-rings, region-rings, new-answer, placed-answer, offset-answer, region-answer, w, m, S}
+use Rattle.examples.specs.Table.{Row, row-at, table, answer, Examples, refusal-of, outline-ring, hole-rings, region-rings, new-answer, placed-answer, offset-answer, region-answer, no, w, m, S}
 
 unfoldable Hold : List Row → Type 0
 Hold [] = Unit {0}
@@ -43,7 +43,7 @@ hold-at (r ∷ rs) h zero l = h .0
 hold-at (r ∷ rs) h (suc k) l = hold-at rs (h .1) k (le-of-suc-le-suc l)
 
 all-hold : Hold table
-unfolding refusal-of outline-ring hole-rings region-rings new-answer placed-answer offset-answer region-answer answer w m S table Hold open-loop open-number open-hypot open-plane open-refusals open-ring open-simple open-contains open-near open-meet open-checks open-store open-outlines open-queries open-lines open-edges open-tidying open-next-event open-splitting open-loading open-sweeps open-offsets open-regions open-region-checks open-insets open-region-queries
+unfolding refusal-of outline-ring hole-rings region-rings new-answer placed-answer offset-answer region-answer answer no w m S table Hold open-loop open-number open-hypot open-plane open-refusals open-ring open-simple open-contains open-near open-meet open-checks open-store open-outlines open-queries open-lines open-edges open-tidying open-next-event open-splitting open-loading open-sweeps open-offsets open-regions open-region-checks open-insets open-region-queries
 all-hold = (refl, (refl, (refl, (refl, (refl, (refl, (refl, (refl, (refl, (refl, (refl, (refl, (refl, (refl, (refl, (refl, (refl, (refl, (refl, (refl, (refl, (refl, (refl, tt)))))))))))))))))))))))
 
 pub examples : Examples

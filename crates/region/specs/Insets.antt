@@ -19,7 +19,7 @@ use Rattle.front.specs.declared.Sweep.{Sweep}
 use Rattle.front.specs.declared.Loaded.{Loaded}
 use Rattle.math.specs.Number
 use Rattle.region.specs.Regions.{no-region, with-outer, with-hole, region-contains, distance-to-boundary, ring-points, ring-count, region-extent, hole-points, hole-count}
-use Rattle.error.specs.Refusals.{offset-failure, granted}
+use Rattle.error.specs.Refusals.{offset-failure, region-failure, granted}
 use Rattle.offset.specs.Offsets.{vanished, walk, starts, check-distance}
 use Rattle.polygon.specs.Outlines.{stored-outline, offset-tolerance}
 use Rattle.math.specs.Number.{zero-float}
@@ -124,7 +124,7 @@ offset-clear r d tolerance s q =
     cond (keeps-clear (Number.sub d tolerance) r q && not (crosses r q)) (offset-granted q s) (offset-refused (Splits d) s)
 
 unfoldable pub offset-region : Region → Float → Float → Sweep → Region → Refusal → RegionOffset
-offset-region r d tolerance s q u = cond (granted u) (offset-clear r d tolerance s q) (offset-refused (offset-failure d u) s)
+offset-region r d tolerance s q u = cond (granted u) (offset-clear r d tolerance s q) (offset-refused (region-failure d u) s)
 
 unfoldable pub offset-found : Region → Float → Float → Sweep → RegionPieces → RegionOffset
 offset-found r d tolerance s p =

@@ -18,7 +18,7 @@ use Rattle.front.specs.declared.Through.the-variants.{NoLine, Along}
 use Rattle.front.specs.declared.Loaded.{Loaded}
 use Rattle.error.specs.declared.Refusal.{Refusal}
 use Rattle.error.specs.declared.Refusal.the-variants.{Granted, Slots, Collapses}
-use Rattle.error.specs.Refusals.{granted, number}
+use Rattle.error.specs.Refusals.{granted, number, values}
 use Rattle.ring.specs.Ring.{following}
 use Rattle.loops.specs.Loop.{rounds}
 use Rattle.front.specs.Edges.{unused, blank, edge}
@@ -107,7 +107,7 @@ module _ (P : Line → Type 0) where
     refused-part i s r q h g = absurd (false≢true (sym q ∙ g))
 
     line-part : (k : ℕ) (s : Loaded) (a : PlanarPoint) (x : Through) → (k < c → (l : Line) → x ≡ Along l → P l) → Part-is k s → granted (s .refusal) ≡ true → Part-is (suc k) (load-line d first c k a s x)
-    unfolding load-line granted loaded-edge
+    unfolding load-line granted number values loaded-edge
     line-part k s a NoLine good p g = refused-part (suc k) s (Collapses d) refl
     line-part k s a (Along l) good p g = go (ltb (s .used) 128) refl
       where
@@ -213,7 +213,7 @@ module _ (P : Line → Type 0) where
 -- ---- no refusal of the loading is the one for want of an end
 
 line-other : (d : Float) (first c k : ℕ) (a : PlanarPoint) (s : Loaded) (x : Through) → number (s .refusal) ≢ 18 → number ((load-line d first c k a s x) .refusal) ≢ 18
-unfolding load-line load-refused number
+unfolding load-line load-refused number values
 line-other d first c k a s NoLine h = λ q. omega arith
 line-other d first c k a s (Along l) h = go (ltb (s .used) 128)
   where
@@ -243,5 +243,5 @@ load-other ps c back origin d s h =
     rounds-keep (load-step ps c back origin d (s .used)) (λ i r. number (r .refusal) ≢ 18) s h (step-other ps c back origin d (s .used)) c
 
 pub none-other : number (loaded-nothing .refusal) ≢ 18
-unfolding loaded-nothing number
+unfolding loaded-nothing number values
 none-other q = omega arith
