@@ -8,7 +8,7 @@ use Rattle.plane.specs.declared.Containment.the-variants.{Inside, OnBoundary, O
 use Rattle.plane.specs.declared.PlanarPoint.{PlanarPoint}
 use Rattle.math.specs.Number
 use Rattle.math.specs.Number.{add, mul, div}
-use Rattle.plane.specs.Plane.{orient, touches}
+use Rattle.plane.specs.Plane.{turn, touches}
 use Rattle.ring.specs.Ring.{vertex-at, edge-end}
 use Rattle.loops.specs.Loop.{rounds}
 
@@ -31,7 +31,7 @@ passes a b p =
     (mul (div (Number.sub (p .north) (a .north)) (Number.sub (b .north) (a .north))) (Number.sub (b .east) (a .east))))
 
 unfoldable pub contains-edge : PlanarPoint → PlanarPoint → PlanarPoint → Containment → Containment
-contains-edge p a b s = cond (touches (orient a b p) a b p) OnBoundary (cond (passes a b p) (flipped s) s)
+contains-edge p a b s = cond (touches (turn a b p) a b p) OnBoundary (cond (passes a b p) (flipped s) s)
 
 unfoldable pub contains-step : List Float → ℕ → PlanarPoint → ℕ → Containment → Containment
 contains-step ps n p k s = unless-on s (contains-edge p (vertex-at ps k) (edge-end ps n k) s)

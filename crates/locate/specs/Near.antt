@@ -6,7 +6,8 @@ use lib.Ieee.{Float, lt}
 use Rattle.locate.specs.declared.Nearest.{Nearest}
 use Rattle.plane.specs.declared.PlanarPoint.{PlanarPoint}
 use Rattle.plane.specs.Plane.{sub, closest-on-segment}
-use Rattle.ring.specs.Ring.{length-of, vertex-at, edge-end}
+use Rattle.plane.specs.Points.{length-of}
+use Rattle.ring.specs.Ring.{vertex-at, edge-end}
 use Rattle.loops.specs.Loop.{rounds}
 use Rattle.math.specs.Number.{infinity, fmin}
 

@@ -21,7 +21,7 @@ pub fn nearer(candidate: Nearest, best: Nearest) -> Nearest
 pub fn gap_to(p: PlanarPoint, q: PlanarPoint) -> Nearest
     ensures { λ r. ⌜ r ≡ Near.gap-to p q ⌝ }
 {
-    let gap = ring::length_of(plane::sub(q, p));
+    let gap = plane::length_of(plane::sub(q, p));
     Nearest { gap: gap, foot: q }
 }
 

@@ -2,6 +2,8 @@
 ghost use mathlib.Core.Path.{_≡_};
 ghost use mathlib.Core.Bool.{cond};
 ghost use Rattle.plane.specs.Plane;
+ghost use Rattle.plane.specs.Points;
+use error::Refusal;
 
 // A point of the plane, or a vector.
 pub struct PlanarPoint {
@@ -9,6 +11,24 @@ pub struct PlanarPoint {
     pub north: f64,
 }
 
+// A point, or the refusal of its numbers.
+pub struct NewPoint {
+    pub refusal: Refusal,
+    pub point: PlanarPoint,
+}
+
+// An area in square metres, never negative.
+pub struct Area {
+    pub value: f64,
+}
+
+// An area, or the refusal of its number.
+pub struct NewArea {
+    pub refusal: Refusal,
+    pub area: Area,
+}
+
+// Where a point lies relative to an outline or a region.
 pub enum Containment {
     Inside,
     OnBoundary,
@@ -50,6 +70,13 @@ pub fn orient(a: PlanarPoint, b: PlanarPoint, c: PlanarPoint) -> f64
     cross(sub(b, a), sub(c, a))
 }
 
+// The length of a vector.
+pub fn length_of(v: PlanarPoint) -> f64
+    ensures { λ r. ⌜ r ≡ Points.length-of v ⌝ }
+{
+    math::hypot(v.east, v.north)
+}
+
 // −0 and 0 are equal points.
 pub fn same(a: PlanarPoint, b: PlanarPoint) -> bool
     ensures { λ r. ⌜ r ≡ Plane.same a b ⌝ }
@@ -68,16 +95,16 @@ pub fn within_box(a: PlanarPoint, b: PlanarPoint, p: PlanarPoint) -> bool
     (west <= p.east) & ((p.east <= east) & ((south <= p.north) & (p.north <= north)))
 }
 
-// One is above 0 and the other below it.
+// Of two cross products one is to the left and the other to the right.
 pub fn apart(d: f64, e: f64) -> bool
-    ensures { λ r. ⌜ r ≡ Plane.apart d e ⌝ }
+    ensures { λ r. ⌜ r ≡ Plane.apart (Plane.side d) (Plane.side e) ⌝ }
 {
     ((0.0 < d) & (e < 0.0)) | ((d < 0.0) & (0.0 < e))
 }
 
-// Whether p, whose turn from the segment is d, lies on it.
+// Whether p, whose cross product from the segment is d, lies on it.
 pub fn touches(d: f64, a: PlanarPoint, b: PlanarPoint, p: PlanarPoint) -> bool
-    ensures { λ r. ⌜ r ≡ Plane.touches d a b p ⌝ }
+    ensures { λ r. ⌜ r ≡ Plane.touches (Plane.side d) a b p ⌝ }
 {
     (d == 0.0) & within_box(a, b, p)
 }
@@ -127,4 +154,73 @@ pub fn closest_on_segment(p: PlanarPoint, a: PlanarPoint, b: PlanarPoint) -> Pla
     let squared = dot(ab, ab);
     let t = math::clamp(dot(sub(p, a), ab) / squared);
     choose(squared <= 0.0, a, along(a, ab, t))
+}
+
+impl PlanarPoint {
+    // Question 2 of a point: east first.
+    pub fn check(self) -> Refusal
+        ensures { λ r. ⌜ r ≡ Points.check-point self ⌝ }
+    {
+        let north = error::choose(
+            math::finite(self.north),
+            Refusal::Granted,
+            Refusal::NotFinite(1),
+        );
+        error::choose(math::finite(self.east), north, Refusal::NotFinite(0))
+    }
+
+    // The point of these numbers, or the origin beside a refusal.
+    pub fn from_metres(east: f64, north: f64) -> NewPoint
+        ensures { λ r. ⌜ r ≡ Points.from-metres east north ⌝ }
+    {
+        let given = PlanarPoint {
+            east: east,
+            north: north,
+        };
+        let none = PlanarPoint {
+            east: 0.0,
+            north: 0.0,
+        };
+        let refusal = given.check();
+        NewPoint {
+            refusal: refusal,
+            point: choose(refusal.granted(), given, none),
+        }
+    }
+
+    // The distance between two points; one that is infinite reads 0.
+    pub fn distance_to(self, other: PlanarPoint) -> f64
+        ensures { λ r. ⌜ r ≡ Points.distance-to self other ⌝ }
+    {
+        let delta = sub(other, self);
+        math::distance(length_of(delta))
+    }
+}
+
+impl Area {
+    // The area of this many square metres: 2 where it is not finite, 14 below 0.
+    pub fn from_square_metres(value: f64) -> NewArea
+        ensures { λ r. ⌜ r ≡ Points.from-square-metres value ⌝ }
+    {
+        let sign = error::choose(value < 0.0, Refusal::Negative(value), Refusal::Granted);
+        let refusal = error::choose(math::finite(value), sign, Refusal::NotFinite(0));
+        NewArea {
+            refusal: refusal,
+            area: Area {
+                value: math::choose(refusal.granted(), value, 0.0),
+            },
+        }
+    }
+
+    pub fn from_hectares(value: f64) -> NewArea
+        ensures { λ r. ⌜ r ≡ Points.from-hectares value ⌝ }
+    {
+        Area::from_square_metres(value * 10000.0)
+    }
+
+    pub fn hectares(self) -> f64
+        ensures { λ r. ⌜ r ≡ Points.hectares self ⌝ }
+    {
+        self.value / 10000.0
+    }
 }

@@ -7,7 +7,7 @@ use lib.ListN.{getD, set, length}
 use lib.Ieee.{Float, nan}
 use Rattle.plane.specs.declared.PlanarPoint.{PlanarPoint}
 use Rattle.error.specs.declared.Refusal.{Refusal}
-use Rattle.error.specs.declared.Refusal.the-variants.{Granted, NotFinite, Shape, Short}
+use Rattle.error.specs.declared.Refusal.the-variants.{Granted, Shape, Short}
 use Rattle.polygon.specs.declared.Outline.{Outline}
 use Rattle.plane.specs.declared.Containment.{Containment}
 use Rattle.plane.specs.declared.Containment.the-variants.{Outside}
@@ -16,16 +16,13 @@ use Rattle.polygon.specs.declared.Measured.{Measured}
 use Rattle.polygon.specs.declared.Footed.{Footed}
 use Rattle.polygon.specs.Outlines
 use Rattle.ring.specs.Ring
-use Rattle.math.specs.Number.{finite, zero-float}
+use Rattle.math.specs.Number.{zero-float}
+use Rattle.plane.specs.Points.{check-point}
 use Rattle.polygon.specs.Outlines.{proper}
 use Rattle.error.specs.Refusals.{granted}
 use Rattle.loops.specs.Loop.{rounds}
 
 -- ---- 21 and 2
-
--- `from_metres`: east first
-unfoldable pub check-point : PlanarPoint → Refusal
-check-point p = cond (finite (p .east)) (cond (finite (p .north)) Granted (NotFinite 1)) (NotFinite 0)
 
 unfoldable pub ask : Bool → Refusal → Refusal
 ask proper r = cond proper r Shape
@@ -79,5 +76,5 @@ written-outline o out = cond (leb (2 * o .count) (length out)) (write-ring (o .p
 
 -- opens every definition above, for a proof that computes with all of them
 unfoldable pub open-queries : Unit {0}
-unfolding check-point ask ask-outline placed measured footed outline-contains outline-distance outline-closest outline-area outline-perimeter outline-clearance write-step write-ring write-refusal written-outline
+unfolding ask ask-outline placed measured footed outline-contains outline-distance outline-closest outline-area outline-perimeter outline-clearance write-step write-ring write-refusal written-outline
 open-queries = tt

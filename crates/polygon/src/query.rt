@@ -10,18 +10,6 @@ use error::Refusal;
 use plane::Containment;
 use plane::PlanarPoint;
 
-// East first.
-pub fn check_point(p: PlanarPoint) -> Refusal
-    ensures { λ r. ⌜ r ≡ Queries.check-point p ⌝ }
-{
-    let north = error::choose(
-        math::finite(p.north),
-        Refusal::Granted,
-        Refusal::NotFinite(1),
-    );
-    error::choose(math::finite(p.east), north, Refusal::NotFinite(0))
-}
-
 pub fn ask_outline(o: Outline, r: Refusal) -> Refusal
     ensures { λ x. ⌜ x ≡ Queries.ask-outline o r ⌝ }
 {
@@ -31,7 +19,7 @@ pub fn ask_outline(o: Outline, r: Refusal) -> Refusal
 pub fn outline_contains(o: Outline, p: PlanarPoint) -> Placed
     ensures { λ r. ⌜ r ≡ Queries.outline-contains o p ⌝ }
 {
-    let r = ask_outline(o, check_point(p));
+    let r = ask_outline(o, p.check());
     if r.granted() {
         Placed {
             refusal: Refusal::Granted,
@@ -48,7 +36,7 @@ pub fn outline_contains(o: Outline, p: PlanarPoint) -> Placed
 pub fn outline_distance(o: Outline, p: PlanarPoint) -> Measured
     ensures { λ r. ⌜ r ≡ Queries.outline-distance o p ⌝ }
 {
-    let r = ask_outline(o, check_point(p));
+    let r = ask_outline(o, p.check());
     if r.granted() {
         let near = locate::near::nearest_to(&o.points, o.count, p);
         Measured {
@@ -66,7 +54,7 @@ pub fn outline_distance(o: Outline, p: PlanarPoint) -> Measured
 pub fn outline_closest(o: Outline, p: PlanarPoint) -> Footed
     ensures { λ r. ⌜ r ≡ Queries.outline-closest o p ⌝ }
 {
-    let r = ask_outline(o, check_point(p));
+    let r = ask_outline(o, p.check());
     if r.granted() {
         let near = locate::near::nearest_to(&o.points, o.count, p);
         let foot = near.foot;

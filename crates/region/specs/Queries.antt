@@ -15,7 +15,8 @@ use Rattle.error.specs.declared.Refusal.the-variants.{Granted}
 use Rattle.region.specs.Regions
 use Rattle.region.specs.Regions.{ring-points, ring-count}
 use Rattle.region.specs.Checks.{proper-region}
-use Rattle.polygon.specs.Queries.{ask, check-point, placed, measured, footed, write-ring}
+use Rattle.plane.specs.Points.{check-point}
+use Rattle.polygon.specs.Queries.{ask, placed, measured, footed, write-ring}
 use Rattle.loops.specs.Loop.{rounds}
 
 unfoldable pub ask-region : Region → Refusal → Refusal

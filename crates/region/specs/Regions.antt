@@ -16,8 +16,8 @@ use Rattle.polygon.specs.Outlines.{no-outline}
 use Rattle.ring.specs.Store.{stored}
 use Rattle.locate.specs.Contains.{ring-contains}
 use Rattle.loops.specs.Loop.{rounds}
-use Rattle.plane.specs.Plane.{sub}
-use Rattle.ring.specs.Ring.{length-of, extent}
+use Rattle.plane.specs.Points.{distance-to}
+use Rattle.ring.specs.Ring.{extent}
 use Rattle.locate.specs.Near.{nearest}
 
 unfoldable pub no-region : Region
@@ -66,9 +66,6 @@ contains-step r p k s = while-inside s (in-hole (ring-contains (hole-points r k)
 unfoldable pub region-contains : Region → PlanarPoint → Containment
 region-contains r p = rounds (contains-step r p) (r .holes) (ring-contains (r .outer .points) (r .outer .count) p)
 
-unfoldable pub distance-to : PlanarPoint → PlanarPoint → Float
-distance-to p q = distance (length-of (sub q p))
-
 unfoldable pub closer : PlanarPoint → PlanarPoint → PlanarPoint → PlanarPoint
 closer p candidate best = cond (lt (distance-to p candidate) (distance-to p best)) candidate best
 
@@ -103,5 +100,5 @@ region-extent r = rounds (extent-step r) (r .holes) (extent (r .outer .points) (
 
 -- opens every definition above, for a proof that computes with all of them
 unfoldable pub open-regions : Unit {0}
-unfolding no-region hole-points hole-count ring-points ring-count with-outer with-hole in-hole while-inside contains-step region-contains distance-to closer closest-step closest-boundary-point distance-to-boundary area-step area perimeter-step perimeter extent-step region-extent
+unfolding no-region hole-points hole-count ring-points ring-count with-outer with-hole in-hole while-inside contains-step region-contains closer closest-step closest-boundary-point distance-to-boundary area-step area perimeter-step perimeter extent-step region-extent
 open-regions = tt

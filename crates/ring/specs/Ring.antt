@@ -10,6 +10,7 @@ use Rattle.ring.specs.declared.Bounds.{Bounds}
 use Rattle.math.specs.Number
 use Rattle.math.specs.Number.{add, div, zero-float, two, abs, fmin, fmax, infinity, distance}
 use Rattle.plane.specs.Plane.{sub, cross}
+use Rattle.plane.specs.Points.{length-of}
 use Rattle.loops.specs.Loop.{rounds}
 use Rattle.math.specs.Hypot.{hypot}
 
@@ -57,9 +58,6 @@ span ps n = diagonal (rounds (bounds-step ps) n no-bounds)
 
 -- ---- perimeter and extent
 
-unfoldable pub length-of : PlanarPoint → Float
-length-of v = hypot (v .east) (v .north)
-
 unfoldable pub perimeter-step : List Float → ℕ → ℕ → Float → Float
 perimeter-step ps n k s = add s (length-of (sub (edge-end ps n k) (vertex-at ps k)))
 
@@ -83,5 +81,5 @@ stored-at ps n back k = vertex-at ps (source n back k)
 
 -- opens every definition above, for a proof that computes with all of them
 unfoldable pub open-ring : Unit {0}
-unfolding vertex-at following edge-end area-step signed-area area widened bounds-step diagonal span length-of perimeter-step perimeter reach extent-step extent source stored-at
+unfolding vertex-at following edge-end area-step signed-area area widened bounds-step diagonal span perimeter-step perimeter reach extent-step extent source stored-at
 open-ring = tt

@@ -154,18 +154,12 @@ pub fn span(ps: &[f64], n: usize) -> f64
     diagonal(s)
 }
 
-pub fn length_of(v: PlanarPoint) -> f64
-    ensures { λ r. ⌜ r ≡ Ring.length-of v ⌝ }
-{
-    math::hypot(v.east, v.north)
-}
-
 pub fn perimeter_step(ps: &[f64], n: usize, k: usize, s: f64) -> f64
     ensures { λ r. ⌜ r ≡ Ring.perimeter-step (now (ps .entry)) n k s ⌝ }
 {
     let a = vertex_at(ps, k);
     let b = edge_end(ps, n, k);
-    s + length_of(plane::sub(b, a))
+    s + plane::length_of(plane::sub(b, a))
 }
 
 pub fn perimeter(ps: &[f64], n: usize) -> f64

@@ -6,7 +6,15 @@ use super::Crossing;
 use plane::PlanarPoint;
 
 // Whether edges i and j, i below j, of n cross or touch, given their ends.
-pub(crate) fn crossing_by(n: usize, i: usize, j: usize, a1: PlanarPoint, a2: PlanarPoint, b1: PlanarPoint, b2: PlanarPoint) -> bool
+pub(crate) fn crossing_by(
+    n: usize,
+    i: usize,
+    j: usize,
+    a1: PlanarPoint,
+    a2: PlanarPoint,
+    b1: PlanarPoint,
+    b2: PlanarPoint,
+) -> bool
     requires { ⌜ (i < j) × (j < n) ⌝ }
     ensures { λ r. ⌜ r ≡ Simple.crossing-by n i j a1 a2 b1 b2 ⌝ }
 {

@@ -4,7 +4,8 @@ use mathlib.Core.Bool.{Bool, true, false, _&&_, _||_, true≢false}
 use lib.Ieee.{Float, eq}
 use Rattle.math.specs.Number.{zero-float}
 use Rattle.plane.specs.declared.PlanarPoint.{PlanarPoint}
-use Rattle.plane.specs.Plane.{orient, apart, within-box, touches, meet-by, segments-meet}
+use Rattle.plane.specs.Plane.{orient, side, turn, is-straight, apart, within-box, touches, meet-by, segments-meet}
+use Rattle.plane.proofs.Turns.{straight-is}
 use borrow.Author.Needs.{needs}
 use Rattle.plane.proofs.segments_meet.Statement.{statement}
 use Rattle.plane.proofs.segments_meet.Tie as tie
@@ -20,13 +21,13 @@ none false false false false false p q r s h = refl
 
 clear :
     (p1 p2 q1 q2 : PlanarPoint) (d1 d2 d3 d4 : Float) (o o′ : Bool) → d1 ≡ orient q1 q2 p1 → d2 ≡ orient q1 q2 p2 → d3 ≡ orient p1 p2 q1 →
-    d4 ≡ orient p1 p2 q2 → o ≡ apart d1 d2 → o′ ≡ apart d3 d4 →
+    d4 ≡ orient p1 p2 q2 → o ≡ apart (side d1) (side d2) → o′ ≡ apart (side d3) (side d4) →
     (eq d1 zero-float || (eq d2 zero-float || (eq d3 zero-float || eq d4 zero-float))) ≡ false → (o && o′) ≡ segments-meet p1 p2 q1 q2
-unfolding segments-meet meet-by touches
+unfolding segments-meet meet-by turn touches
 clear p1 p2 q1 q2 d1 d2 d3 d4 o o′ e1 e2 e3 e4 e5 e6 h = rw (← e1, ← e2, ← e3, ← e4, ← e5, ← e6)
     (sym
-    (none (o && o′) (eq d1 zero-float) (eq d2 zero-float) (eq d3 zero-float) (eq d4 zero-float) (within-box q1 q2 p1) (within-box q1 q2 p2) (within-box p1 p2 q1)
-    (within-box p1 p2 q2) h))
+    (none (o && o′) (is-straight (side d1)) (is-straight (side d2)) (is-straight (side d3)) (is-straight (side d4)) (within-box q1 q2 p1) (within-box q1 q2 p2) (within-box p1 p2 q1)
+    (within-box p1 p2 q2) (rw (← straight-is d1, ← straight-is d2, ← straight-is d3, ← straight-is d4) h)))
 
 orient-requires : tie.Need-orient-requires
 orient-requires c κs = search needs
@@ -59,7 +60,7 @@ touches-requires-4 : tie.Need-touches-requires-4
 touches-requires-4 c κs = search needs
 
 returns : tie.Need-returns
-unfolding segments-meet meet-by
+unfolding segments-meet meet-by turn
 returns c = simp (c .touches4 .ensures, c .before .touches3 .ensures, c .before .before .touches2 .ensures, c .before .before .before .touches .ensures, c .before .before .before .before .before .apart2 .ensures, c .before .before .before .before .before .before .apart .ensures, c .before .before .before .before .before .before .before .orient4 .ensures, c .before .before .before .before .before .before .before .before .orient3 .ensures, c .before .before .before .before .before .before .before .before .before .orient2 .ensures, c .before .before .before .before .before .before .before .before .before .before .orient .ensures)
 
 returns-2 : tie.Need-returns-2

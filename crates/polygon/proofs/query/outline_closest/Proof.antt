@@ -8,8 +8,8 @@ use borrow.Author.Needs.{needs}
 use Rattle.polygon.proofs.query.outline_closest.Statement.{statement}
 use Rattle.polygon.proofs.query.outline_closest.Tie as tie
 
-check-point-requires : tie.Need-check-point-requires
-check-point-requires c κs = search needs
+check-requires : tie.Need-check-requires
+check-requires c κs = search needs
 
 ask-outline-requires : tie.Need-ask-outline-requires
 ask-outline-requires c κs = search needs
@@ -22,17 +22,17 @@ nearest-to-requires c κs = search needs
 
 returns : tie.Need-returns
 unfolding Queries.outline-closest Outlines.closest-boundary-point
-returns c = footed-yes _ _ (c .before .before .before .before .before .before .before .ask-outline .ensures ∙ ap (Queries.ask-outline _) (c .before .before .before .before .before .before .before .before .check-point .ensures)) _ _ (ap (λ (x : Nearest). x .foot) (c .before .nearest-to .ensures)) (sym (c .before .before .before .before .before .before .granted .ensures) ∙ c .before .before .before .before .before .if1 .taken)
+returns c = footed-yes _ _ (c .before .before .before .before .before .before .before .ask-outline .ensures ∙ ap (Queries.ask-outline _) (c .before .before .before .before .before .before .before .before .check .ensures)) _ _ (ap (λ (x : Nearest). x .foot) (c .before .nearest-to .ensures)) (sym (c .before .before .before .before .before .before .granted .ensures) ∙ c .before .before .before .before .before .if1 .taken)
 
 returns-2 : tie.Need-returns-2
 unfolding Queries.outline-closest Outlines.closest-boundary-point
-returns-2 c = footed-no _ _ (c .before .before .ask-outline .ensures ∙ ap (Queries.ask-outline _) (c .before .before .before .check-point .ensures)) _ (sym (c .before .granted .ensures) ∙ c .if1 .left)
+returns-2 c = footed-no _ _ (c .before .before .ask-outline .ensures ∙ ap (Queries.ask-outline _) (c .before .before .before .check .ensures)) _ (sym (c .before .granted .ensures) ∙ c .if1 .left)
 
 pub outline-closest-spec : {M : Type 1} → statement M
 outline-closest-spec =
     tie.close
     (tie.spec
-    check-point-requires
+    check-requires
     ask-outline-requires
     granted-requires
     nearest-to-requires

@@ -1,0 +1,36 @@
+-- `plane::Area::from_square_metres` meets its contract. Assumes nothing.
+use Rattle.plane.specs.Points
+use Rattle.plane.proofs.Answers.{area-told}
+use borrow.Author.Needs.{needs}
+use Rattle.plane.proofs.Area.from_square_metres.Statement.{statement}
+use Rattle.plane.proofs.Area.from_square_metres.Tie as tie
+
+choose-requires : tie.Need-choose-requires
+choose-requires c κs = search needs
+
+finite-requires : tie.Need-finite-requires
+finite-requires c κs = search needs
+
+choose-requires-2 : tie.Need-choose-requires-2
+choose-requires-2 c κs = search needs
+
+granted-requires : tie.Need-granted-requires
+granted-requires c κs = search needs
+
+choose-requires-3 : tie.Need-choose-requires-3
+choose-requires-3 c κs = search needs
+
+returns : tie.Need-returns
+unfolding Points.from-square-metres Points.check-area
+returns c = rw (c .choose3 .ensures, c .before .granted .ensures, c .before .before .choose2 .ensures, c .before .before .before .finite .ensures, c .before .before .before .before .choose .ensures) (area-told _ _)
+
+pub from-square-metres-spec : {M : Type 1} → statement M
+from-square-metres-spec =
+    tie.close
+    (tie.spec
+    choose-requires
+    finite-requires
+    choose-requires-2
+    granted-requires
+    choose-requires-3
+    returns)
