@@ -17,7 +17,8 @@ use Rattle.math.specs.Hypot.{dropped, kept, round-root, count, hypot}
 use Rattle.math.specs.Parts.{exponent-of, significand-of, units-of}
 use Rattle.math.specs.Nearest.{Held, NearestRoot, edge, Rounds, past, near}
 use Rattle.math.proofs.Poly.{poly}
-use Rattle.math.proofs.Nearest.{nearest-root, sq-le, sq-mono}
+use Rattle.math.proofs.Roots.{le-or-lt, sq-le, sq-mono}
+use Rattle.math.proofs.Nearest.{nearest-root}
 use Rattle.math.proofs.Values.{magnitude-fin}
 
 -- ---- every finite double is held
@@ -159,20 +160,8 @@ stays s h =
     finite-value s (lt-of-not-le (λ (l : 2 ^ 53 * 2 ^ 2045 ≤ q * 2 ^ k). not-le-of-lt h (reach s q k (2 ^ 2045) refl (nearest-root s) l)))
 
 pub round-root-rounds : (s : ℕ) → Rounds s (round-root binary64 s)
-round-root-rounds s = go (two (4 * s) (edge * edge))
+round-root-rounds s = go (le-or-lt (edge * edge) (4 * s))
   where
-    two : (a b : ℕ) → (b ≤ a) ⊎ (a < b)
-    two a b = at (b - a) refl
-      where
-        at : (d : ℕ) → b - a ≡ d → (b ≤ a) ⊎ (a < b)
-        at zero e = inl (omega arith)
-        at (suc d) e = inr (omega arith)
-
     go : (edge * edge ≤ 4 * s) ⊎ (4 * s < edge * edge) → Rounds s (round-root binary64 s)
     go (inl h) = past h (overflows s h)
     go (inr h) = near (kept binary64 s (dropped binary64 s)) (dropped binary64 s) h (stays s h) (nearest-root s)
-
--- THE THEOREM: `hypot` of two finite doubles is their correctly rounded root. With `double-held`, no double lies nearer.
-pub hypot-rounds : (a b : Bool) (m n : ℕ) (e d : ℤ) → Rounds (count m e * count m e + count n d * count n d) (hypot (fin a m e) (fin b n d))
-unfolding hypot
-hypot-rounds a b m n e d = round-root-rounds (count m e * count m e + count n d * count n d)

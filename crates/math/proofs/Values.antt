@@ -70,23 +70,35 @@ isInf nan = false
 isInf (inf s) = true
 isInf (fin s m e) = false
 
-count-of : (s t : Bool) (m : ℕ) (e : ℤ) (a : ℕ) → HasValue (fin s m e) t a (2 ^ 1074) → a ≡ count m e
+-- a size in units is the definition's count
+pub count-of : (s t : Bool) (m : ℕ) (e : ℤ) (a : ℕ) → HasValue (fin s m e) t a (2 ^ 1074) → a ≡ count m e
 count-of s t m e a h = sym (ap (λ (x : ℕ). x / down e) (h .1) ∙ mul-div-cancel a (down-pos e))
 
-pub magnitude-fin : (s : Bool) (m : ℕ) (e : ℤ) → T (fits binary64 (fin s m e))
-    → (toBits binary64 (fin s m e) % 2 ^ 63 < 2047 * 2 ^ 52) × (units-of (toBits binary64 (fin s m e) % 2 ^ 63) ≡ count m e)
+magnitude-lt : (s : Bool) (m : ℕ) (e : ℤ) → T (fits binary64 (fin s m e)) → toBits binary64 (fin s m e) % 2 ^ 63 < 2047 * 2 ^ 52
 unfolding isNan isInf
-magnitude-fin s m e f = (small, count-of s (leb (2 ^ 63) b) m e (units-of (b % 2 ^ 63)) (subst (λ (v : Float). HasValue v (leb (2 ^ 63) b) (units-of (b % 2 ^ 63)) (2 ^ 1074)) (ofBits-toBits binary64 (fin s m e) f) (value-of b small)))
+magnitude-lt s m e f = go (eq-or-lt-of-le (magnitude-le (fin s m e) f tt))
   where
     b : ℕ
     b = toBits binary64 (fin s m e)
 
-    small : b % 2 ^ 63 < 2047 * 2 ^ 52
-    small = go (eq-or-lt-of-le (magnitude-le (fin s m e) f tt))
-      where
-        go : (b % 2 ^ 63 ≡ 2047 * 2 ^ 52) ⊎ (b % 2 ^ 63 < 2047 * 2 ^ 52) → b % 2 ^ 63 < 2047 * 2 ^ 52
-        go (inl q) = absurd (subst T (sym (ap isInf (sym (ofBits-toBits binary64 (fin s m e) f) ∙ infinite-of b q))) tt)
-        go (inr l) = l
+    go : (b % 2 ^ 63 ≡ 2047 * 2 ^ 52) ⊎ (b % 2 ^ 63 < 2047 * 2 ^ 52) → b % 2 ^ 63 < 2047 * 2 ^ 52
+    go (inl q) = absurd (subst T (sym (ap isInf (sym (ofBits-toBits binary64 (fin s m e) f) ∙ infinite-of b q))) tt)
+    go (inr l) = l
+
+pub value-fin : (s : Bool) (m : ℕ) (e : ℤ) → T (fits binary64 (fin s m e))
+    → HasValue (fin s m e) (leb (2 ^ 63) (toBits binary64 (fin s m e))) (units-of (toBits binary64 (fin s m e) % 2 ^ 63)) (2 ^ 1074)
+value-fin s m e f = subst (λ (v : Float). HasValue v (leb (2 ^ 63) b) (units-of (b % 2 ^ 63)) (2 ^ 1074)) (ofBits-toBits binary64 (fin s m e) f) (value-of b (magnitude-lt s m e f))
+  where
+    b : ℕ
+    b = toBits binary64 (fin s m e)
+
+pub magnitude-fin : (s : Bool) (m : ℕ) (e : ℤ) → T (fits binary64 (fin s m e))
+    → (toBits binary64 (fin s m e) % 2 ^ 63 < 2047 * 2 ^ 52) × (units-of (toBits binary64 (fin s m e) % 2 ^ 63) ≡ count m e)
+magnitude-fin s m e f = (magnitude-lt s m e f, count-of s _ m e _ (value-fin s m e f))
+
+-- the count is the size in units, with no remainder
+pub count-exact : (s : Bool) (m : ℕ) (e : ℤ) → T (fits binary64 (fin s m e)) → HasValue (fin s m e) s (count m e) (2 ^ 1074)
+count-exact s m e f = (refl, subst (λ (a : ℕ). m * up e * 2 ^ 1074 ≡ a * down e) (magnitude-fin s m e f .1) (value-fin s m e f .1))
 
 -- ---- a pattern up to that of infinity is no NaN's
 pub no-nan : (r : ℕ) → r ≤ 2047 * 2 ^ 52 → T (not (nanBits binary64 r))

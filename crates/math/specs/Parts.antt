@@ -1,4 +1,4 @@
--- What the parts of `hypot` promise one another.
+-- What the functions of `root.rt`, the parts of `hypot`, promise one another. Definitions only.
 use mathlib.Core.Path.{_≡_}
 use mathlib.Core.Bool.{false}
 use lib.Ieee.{Float, inf, binary64}
