@@ -1,22 +1,19 @@
 -- The definition is the nearest: `nearest-root`, for every s; and where it is infinity: `overflows`. Assumes nothing.
 use mathlib.Core.Path.{_≡_, refl, sym, ap, _∙_, subst}
 use mathlib.Core.Logic.{_⊎_, inl, inr}
-use mathlib.Core.Bool.{Bool, true, false, not, cond}
+use mathlib.Core.Bool.{not}
 use Prim.Native.Nat.{ℕ, zero, suc, _+_, _-_, _*_, _/_, _%_, _^_, _≤_, _<_, compare, Ordering, Ordering·lt, Ordering·eq, Ordering·gt}
-use native.Mathlib.Nat.{eq-or-lt-of-le, mul-le-mul, mul-le-mul-right, lt-of-lt-of-le, lt-of-le-of-lt, le-trans, le-of-lt, le-div-iff-mul-le, div-lt-iff-lt-mul, lt-of-not-le, not-le-of-lt, mul-assoc, le-of-mul-le-mul-right, lt-of-mul-lt-mul-right, le-antisymm, le-of-eq}
+use native.Mathlib.Nat.{eq-or-lt-of-le, mul-le-mul-right, lt-of-lt-of-le, lt-of-le-of-lt, le-trans, le-of-lt, le-div-iff-mul-le, div-lt-iff-lt-mul, mul-assoc, le-antisymm, le-of-eq}
 use native.Mathlib.Omega.{arith}
-use lib.Dec.{T, isLe, isEq, eqb, leb→le, nleb→lt, eqb→eq, eqb-refl, ltb, lt→ltb}
-use lib.Arith.{le→nltb}
-use lib.Pow.{pow-pos, pow-mono, pow-add, shl-lt}
-use lib.Ieee.{Float, inf, binary64, size, nearest, odd, units}
-use lib.Ieee.Digits.{size-lt, size-le, size-reaches}
-use lib.Ieee.Exact.{HasValue, units-val}
-use lib.Ieee.Bits.{cond-no}
-use Rattle.math.specs.Hypot.{whole-root, dropped, kept, round-root}
-use Rattle.math.specs.Nearest.{Held, NearestRoot, edge}
+use lib.Dec.{T, isLe, isEq, eqb, leb→le, nleb→lt, eqb→eq, eqb-refl}
+use lib.Pow.{pow-pos, pow-mono, pow-add}
+use lib.Ieee.{binary64, size, nearest}
+use lib.Ieee.Digits.{size-lt, size-reaches}
+use Rattle.math.specs.Hypot.{whole-root, dropped, kept}
+use Rattle.math.specs.Nearest.{Held, NearestRoot}
 use Rattle.math.proofs.Poly.{poly}
 use Rattle.math.proofs.Roots.{le-or-lt, sq-le, sq-mono, sq-lt}
-use Rattle.math.proofs.Whole.{Digits, whole-root-in, kept-is, nearest-lt, nearest-eq, nearest-gt}
+use Rattle.math.proofs.Whole.{Digits, whole-root-in, kept-is}
 
 -- ---- the digits that the definition keeps
 from-size : (s k : ℕ) → size s ≤ 106 + 2 * k → (0 < k → 104 + 2 * k < size s) → Digits s k (whole-root 53 (s / 2 ^ (2 * k)))

@@ -2,21 +2,20 @@
 -- And every finite double is among the numbers that `nearest-root` compares with. Assumes nothing.
 use mathlib.Core.Path.{_≡_, refl, sym, ap, _∙_, subst}
 use mathlib.Core.Logic.{_⊎_, inl, inr}
-use mathlib.Core.Bool.{Bool, true, false, not, cond}
-use Prim.Native.Nat.{ℕ, zero, suc, _+_, _-_, _*_, _/_, _%_, _^_, _≤_, _<_}
-use native.Mathlib.Nat.{mul-le-mul, mul-le-mul-right, lt-of-lt-of-le, lt-of-le-of-lt, le-trans, le-of-lt, lt-of-not-le, not-le-of-lt, lt-of-mul-lt-mul-right, eq-of-mul-eq-mul-right, le-antisymm, eq-or-lt-of-le}
+use mathlib.Core.Bool.{Bool, false}
+use Prim.Native.Nat.{ℕ, zero, suc, _+_, _-_, _*_, _%_, _^_, _≤_, _<_}
+use native.Mathlib.Nat.{mul-le-mul, mul-le-mul-right, lt-of-le-of-lt, le-trans, lt-of-not-le, not-le-of-lt, lt-of-mul-lt-mul-right, eq-of-mul-eq-mul-right, eq-or-lt-of-le}
 use native.Mathlib.Omega.{arith}
-use lib.Dec.{T, ltb, lit<, lit≤}
+use lib.Dec.{T, ltb, lit≤}
 use lib.Arith.{le→nltb}
 use lib.Pow.{pow-pos, pow-mono, pow-add}
 use lib.IntN.{ℤ}
-use lib.Ieee.{Float, inf, fin, binary64, odd, units, toBits, fits}
+use lib.Ieee.{inf, fin, binary64, odd, units, toBits, fits}
 use lib.Ieee.Exact.{HasValue, units-val}
 use lib.Ieee.Bits.{cond-no}
-use Rattle.math.specs.Hypot.{dropped, kept, round-root, count, hypot}
-use Rattle.math.specs.Parts.{exponent-of, significand-of, units-of}
+use Rattle.math.specs.Hypot.{dropped, kept, round-root, count}
+use Rattle.math.specs.Parts.{exponent-of, significand-of}
 use Rattle.math.specs.Nearest.{Held, NearestRoot, edge, Rounds, past, near}
-use Rattle.math.proofs.Poly.{poly}
 use Rattle.math.proofs.Roots.{le-or-lt, sq-le, sq-mono}
 use Rattle.math.proofs.Nearest.{nearest-root}
 use Rattle.math.proofs.Values.{magnitude-fin}

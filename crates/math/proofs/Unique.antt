@@ -1,16 +1,16 @@
 -- No two doubles are both the nearest to a root. Assumes nothing.
-use mathlib.Core.Path.{_≡_, refl, sym, ap, _∙_, subst}
+use mathlib.Core.Path.{_≡_, sym, ap, _∙_, subst}
 use mathlib.Core.Logic.{_⊎_, inl, inr}
-use mathlib.Core.Bool.{Bool, false}
+use mathlib.Core.Bool.{false}
 use Prim.Native.Nat.{ℕ, _+_, _-_, _*_, _/_, _%_, _^_, _≤_, _<_}
 use native.Mathlib.Nat.{eq-or-lt-of-le, add-comm, mul-assoc, mul-lt-mul-of-pos-right, lt-of-mul-lt-mul-right, le-antisymm, le-trans, le-of-eq, not-le-of-lt}
 use native.Mathlib.Omega.{arith}
 use lib.Dec.{T}
 use lib.Pow.{pow-pos, pow-add}
-use lib.Ieee.{Float, inf, binary64, fits, ofBits}
+use lib.Ieee.{Float, binary64, fits, ofBits}
 use lib.Ieee.Exact.{HasValue}
 use lib.Ieee.Bits.{ofBits-toBits}
-use Rattle.math.specs.Nearest.{Held, NearestRoot, edge, Rounds, past, near}
+use Rattle.math.specs.Nearest.{Held, NearestRoot, Rounds, past, near}
 use Rattle.math.proofs.Poly.{poly}
 use Rattle.math.proofs.Roots.{le-or-lt, sq-mono}
 use Rattle.math.proofs.Nearest.{held-of}

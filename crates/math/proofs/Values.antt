@@ -3,11 +3,11 @@ use mathlib.Core.Path.{_≡_, refl, sym, ap, _∙_, subst}
 use mathlib.Core.Logic.{_⊎_, inl, inr}
 use mathlib.Core.Bool.{Bool, true, false, not, cond}
 use Prim.Native.Nat.{ℕ, zero, suc, _+_, _-_, _*_, _/_, _%_, _^_, _≤_, _<_, min}
-use native.Mathlib.Nat.{eq-or-lt-of-le, mul-div-cancel, add-comm, lt-of-not-le, lt-irrefl, lt-of-le-of-lt}
+use native.Mathlib.Nat.{eq-or-lt-of-le, mul-div-cancel, add-comm}
 use native.Mathlib.Omega.{arith}
-use lib.Dec.{T, leb, ltb, eqb, eqb→eq, not-T, T-not, nltb→le}
+use lib.Dec.{T, leb, ltb, eqb, eqb→eq, not-T, nltb→le}
 use lib.Pow.{mod-mod-pow}
-use lib.IntN.{ℤ, pos}
+use lib.IntN.{ℤ}
 use lib.Ieee.{Float, nan, inf, fin, binary64, up, down, odd, ofFields, ofBits, toBits, fits, isNan, nanBits, ne, div}
 use lib.Ieee.Exact.{HasValue, odd-sign}
 use lib.Ieee.Fits.{down-pos}

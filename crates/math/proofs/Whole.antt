@@ -1,11 +1,10 @@
 -- What the definitions of `specs/Hypot.antt` come to. Assumes nothing.
 use mathlib.Core.Path.{_≡_, refl, sym, ap, _∙_, subst}
 use mathlib.Core.Bool.{Bool, true, false, not, cond}
-use mathlib.Core.Logic.{inl, inr}
 use Prim.Native.Nat.{ℕ, zero, suc, _+_, _-_, _*_, _/_, _%_, _^_, _≤_, _<_, compare, Ordering, Ordering·lt, Ordering·eq, Ordering·gt}
 use native.Mathlib.Nat.{mul-le-mul, mul-le-mul-right, lt-of-lt-of-le, lt-of-le-of-lt, le-trans, le-div-iff-mul-le, div-lt-iff-lt-mul, lt-of-not-le, not-le-of-lt}
 use native.Mathlib.Omega.{arith}
-use lib.Dec.{T, leb, leb→le, nleb→lt, isLe, isEq, eqb, eqb→eq, eqb-refl, le→leb}
+use lib.Dec.{T, leb, leb→le, nleb→lt, isLe, isEq, eqb, eqb→eq, eqb-refl}
 use lib.Pow.{pow-pos, pow-mono, pow-add}
 use lib.Ieee.{binary64, size, nearest}
 use lib.Ieee.Digits.{size-lt, size-le}
