@@ -1,6 +1,6 @@
 // Functions for C and for Rust. Each is a call of a proved function, with its contract.
 ghost use mathlib.Core.Path.{_≡_};
-ghost use Rattle.math.specs.Hypot;
+ghost use Rattle.hypotenuse.specs.Hypot;
 
 // math::hypot.
 #[no_mangle]

@@ -5,10 +5,10 @@ use native.Mathlib.Nat.{mul-le-mul, mul-le-mul-right, mul-lt-mul-of-pos-right, l
 use native.Mathlib.Omega.{arith}
 use lib.Pow.{pow-pos, pow-mono, pow-add}
 use lib.Ieee.{binary64, ofBits}
-use Rattle.math.specs.Hypot.{round-root}
+use Rattle.hypotenuse.specs.Hypot.{round-root}
 use Rattle.math.specs.Parts.{Twice, Fourth, Parts, exponent-of, significand-of, units-of}
-use Rattle.math.proofs.Poly.{poly}
-use Rattle.math.proofs.Roots.{sq-lt}
+use Rattle.hypotenuse.proofs.Poly.{poly}
+use Rattle.hypotenuse.proofs.Order.{sq-lt}
 use Rattle.math.proofs.Rounding.{near-one, round-root-is}
 use Rattle.math.proofs.Pattern.{finite-is}
 

@@ -15,12 +15,13 @@ use lib.Ieee.Order.{le-of-values}
 use lib.Ieee.Positive.{through}
 use borrow.Author.Tests.{ltb-true, ltb-false, le-ltb, eqb-true}
 use Rattle.math.specs.Number.{abs}
-use Rattle.math.specs.Hypot.{hypot, count}
-use Rattle.math.specs.Nearest.{Held, NearestRoot, Rounds, past, near}
-use Rattle.math.proofs.Poly.{poly}
-use Rattle.math.proofs.Roots.{sq-mono}
+use Rattle.hypotenuse.specs.Hypot.{hypot, count}
+use Rattle.hypotenuse.specs.Nearest.{Held, NearestRoot, Rounds, past, near}
+use Rattle.hypotenuse.proofs.Poly.{poly}
+use Rattle.hypotenuse.proofs.Order.{sq-mono}
 use Rattle.math.proofs.Values as values
-use Rattle.math.proofs.Overflow.{double-held, round-root-rounds}
+use Rattle.hypotenuse.proofs.Units.{count-exact, double-held}
+use Rattle.hypotenuse.proofs.Overflow.{round-root-rounds}
 
 -- ---- what a rounded root is: a double whose square is at most s is at most the rounded root of s
 root-reaches : {s q k : ℕ} (Z : ℕ) → Held Z → Z * Z ≤ s → NearestRoot s q k → Z ≤ q * 2 ^ k
@@ -102,7 +103,7 @@ hypot-left (inf s) y f p q = refl
 hypot-left (fin s m e) nan f p q = absurd (true≢false q)
 hypot-left (fin s m e) (inf t) f p q = refl
 hypot-left (fin s m e) (fin t n d) f p q =
-    rounds-reach (fin false m e) _ (count m e) (refl, values.count-exact s m e f .1) (double-held s m e f) (le-add-right (count m e * count m e) (count n d * count n d)) (round-root-rounds (count m e * count m e + count n d * count n d))
+    rounds-reach (fin false m e) _ (count m e) (refl, count-exact s m e f .1) (double-held s m e f) (le-add-right (count m e * count m e) (count n d * count n d)) (round-root-rounds (count m e * count m e + count n d * count n d))
 
 pub hypot-right : (x y : Float) → T (fits binary64 y) → isNan x ≡ false → isNan y ≡ false → le (abs y) (hypot x y) ≡ true
 hypot-right x y f p q = ap (le (abs y)) (hypot-swap x y) ∙ hypot-left y x f q p

@@ -8,10 +8,10 @@ use native.Mathlib.Omega.{arith}
 use native.Mathlib.Numerals.{add-one}
 use lib.Pow.{pow-pos, pow-add}
 use lib.Ieee.{binary64, nearest, units}
-use Rattle.math.specs.Hypot.{kept, round-root}
+use Rattle.hypotenuse.specs.Hypot.{kept, round-root}
 use Rattle.math.specs.Parts.{Twice, Fourth}
-use Rattle.math.proofs.Poly.{poly}
-use Rattle.math.proofs.Whole.{Digits, dropped-is, kept-is, nearest-lt, nearest-eq, nearest-gt}
+use Rattle.hypotenuse.proofs.Poly.{poly}
+use Rattle.hypotenuse.proofs.Whole.{Digits, dropped-is, kept-is, nearest-lt, nearest-eq, nearest-gt}
 
 -- Four times the root of s in units of 2 ^ k lies from g on and below t, and is g where rest is 0.
 pub record Near (s k g t rest : ℕ) : Type 0 where

@@ -4,7 +4,7 @@ ghost use mathlib.Core.Bool.{not, false};
 ghost use Prim.Native.Nat.{ℕ, _+_, _-_, _*_, _/_, _%_, _^_, _≤_, _<_};
 ghost use lib.Dec.{T};
 ghost use lib.Ieee.{nan, binary64, toBits, ofBits, isNan, units};
-ghost use Rattle.math.specs.Hypot.{hypot, round-root};
+ghost use Rattle.hypotenuse.specs.Hypot.{hypot, round-root};
 ghost use Rattle.math.specs.Parts.{RootOf, Halved, WideOf, CutOf, Twice, Fourth, Parts, Larger, exponent-of, significand-of, units-of};
 
 // 2^27, 2^52, 2^54, and the pattern of infinity.

@@ -1,20 +1,21 @@
 -- No two doubles are both the nearest to a root. Assumes nothing.
 use mathlib.Core.Path.{_≡_, sym, ap, _∙_, subst}
 use mathlib.Core.Logic.{_⊎_, inl, inr}
-use mathlib.Core.Bool.{false}
+use mathlib.Core.Bool.{Bool, false, cond}
 use Prim.Native.Nat.{ℕ, _+_, _-_, _*_, _/_, _%_, _^_, _≤_, _<_}
 use native.Mathlib.Nat.{eq-or-lt-of-le, add-comm, mul-assoc, mul-lt-mul-of-pos-right, lt-of-mul-lt-mul-right, le-antisymm, le-trans, le-of-eq, not-le-of-lt}
 use native.Mathlib.Omega.{arith}
 use lib.Dec.{T}
 use lib.Pow.{pow-pos, pow-add}
-use lib.Ieee.{Float, binary64, fits, ofBits}
+use lib.Ieee.{Float, nan, inf, fin, binary64, size, fits, toBits, ofBits}
+use Rattle.hypotenuse.specs.Hypot.{count}
 use lib.Ieee.Exact.{HasValue}
 use lib.Ieee.Bits.{ofBits-toBits}
-use Rattle.math.specs.Nearest.{Held, NearestRoot, Rounds, past, near}
-use Rattle.math.proofs.Poly.{poly}
-use Rattle.math.proofs.Roots.{le-or-lt, sq-mono}
-use Rattle.math.proofs.Nearest.{held-of}
-use Rattle.math.proofs.Pattern.{bits-of, toBits-of}
+use Rattle.hypotenuse.specs.Nearest.{Held, NearestRoot, Rounds, past, near}
+use Rattle.hypotenuse.proofs.Poly.{poly}
+use Rattle.hypotenuse.proofs.Order.{le-or-lt, sq-mono}
+use Rattle.hypotenuse.proofs.Nearest.{held-of}
+use Rattle.hypotenuse.proofs.Units.{count-of}
 
 -- a number that is held and lies between R and S
 record Between (R S : ℕ) : Type 0 where
@@ -121,9 +122,18 @@ same-root {s} {q} {k} {r} {j} n m = le-antisymm (not-less (one-root m n)) (not-l
     not-less h = omega arith
 
 -- a double is known by its size
+same-bits : (u v : Float) (a b : ℕ) → HasValue u false a (2 ^ 1074) → HasValue v false b (2 ^ 1074) → a ≡ b → toBits binary64 u ≡ toBits binary64 v
+unfolding toBits
+same-bits nan v a b p q e = absurd p
+same-bits (inf s) v a b p q e = absurd p
+same-bits (fin s m d) nan a b p q e = absurd q
+same-bits (fin s m d) (inf t) a b p q e = absurd q
+same-bits (fin s m d) (fin t n c) a b p q e =
+    ap (λ (x : Bool). cond x (2 ^ 63) 0 + (size (count m d) - 53) * 2 ^ 52 + count m d / 2 ^ (size (count m d) - 53)) (p .0 ∙ sym (q .0))
+    ∙ ap (λ (x : ℕ). cond t (2 ^ 63) 0 + (size x - 53) * 2 ^ 52 + x / 2 ^ (size x - 53)) (sym (count-of s false m d a p) ∙ e ∙ count-of t false n c b q)
+
 same-value : (u v : Float) (a b : ℕ) → T (fits binary64 u) → T (fits binary64 v) → HasValue u false a (2 ^ 1074) → HasValue v false b (2 ^ 1074) → a ≡ b → u ≡ v
-same-value u v a b f g p q e =
-    sym (ofBits-toBits binary64 u f) ∙ ap (ofBits binary64) (toBits-of u a p ∙ ap bits-of e ∙ sym (toBits-of v b q)) ∙ ofBits-toBits binary64 v g
+same-value u v a b f g p q e = sym (ofBits-toBits binary64 u f) ∙ ap (ofBits binary64) (same-bits u v a b p q e) ∙ ofBits-toBits binary64 v g
 
 pub rounds-unique : {s : ℕ} (u v : Float) → T (fits binary64 u) → T (fits binary64 v) → Rounds s u → Rounds s v → u ≡ v
 rounds-unique u v f g (past _ e) (past _ d) = e ∙ sym d

@@ -8,13 +8,13 @@ use lib.Dec.{T, ltb, ltb→lt}
 use lib.IntN.{ℤ}
 use lib.Ieee.{Float, nan, inf, fin, binary64, odd, units, fits}
 use lib.Ieee.Exact.{HasValue}
-use lib.Ieee.Fits.{odd-fits, nan-fits, inf-fits}
-use Rattle.math.specs.Hypot.{dropped, kept, round-root, count, hypot}
-use Rattle.math.specs.Nearest.{HasUnits, Infinite, Held, Rounds, IsHypot, of-finite, of-infinite, of-nan, HypotIsNearest}
-use Rattle.math.proofs.Values.{count-of, count-exact}
-use Rattle.math.proofs.Nearest.{nearest-root}
-use Rattle.math.proofs.Overflow.{double-held, round-root-rounds}
-use Rattle.math.proofs.Unique.{rounds-unique}
+use lib.Ieee.Fits.{odd-fits, inf-fits}
+use Rattle.hypotenuse.specs.Hypot.{dropped, kept, round-root, count, hypot}
+use Rattle.hypotenuse.specs.Nearest.{HasUnits, Infinite, Held, Rounds, IsHypot, of-finite, of-infinite, of-nan, HypotIsNearest}
+use Rattle.hypotenuse.proofs.Units.{count-of, count-exact, double-held}
+use Rattle.hypotenuse.proofs.Nearest.{nearest-root}
+use Rattle.hypotenuse.proofs.Overflow.{round-root-rounds}
+use Rattle.hypotenuse.proofs.Unique.{rounds-unique}
 
 -- ---- the result is a double
 round-root-fits : (s : ℕ) → T (fits binary64 (round-root binary64 s))
@@ -35,13 +35,13 @@ round-root-fits s = go (ltb (q * 2 ^ k) (2 ^ 2098)) (ltb→lt (q * 2 ^ k) (2 ^ 2
     go false h = inf-fits binary64 false
 
 hypot-fits : (x y : Float) → T (fits binary64 (hypot x y))
-unfolding hypot
-hypot-fits nan nan = nan-fits binary64
-hypot-fits nan (inf t) = inf-fits binary64 false
-hypot-fits nan (fin t n d) = nan-fits binary64
-hypot-fits (inf s) y = inf-fits binary64 false
-hypot-fits (fin s m e) nan = nan-fits binary64
-hypot-fits (fin s m e) (inf t) = inf-fits binary64 false
+unfolding hypot fits
+hypot-fits nan nan = tt
+hypot-fits nan (inf t) = tt
+hypot-fits nan (fin t n d) = tt
+hypot-fits (inf s) y = tt
+hypot-fits (fin s m e) nan = tt
+hypot-fits (fin s m e) (inf t) = tt
 hypot-fits (fin s m e) (fin t n d) = round-root-fits (count m e * count m e + count n d * count n d)
 
 -- ---- what is finite, infinite and NaN

@@ -9,11 +9,11 @@ use lib.Dec.{T, isLe, isEq, eqb, leb→le, nleb→lt, eqb→eq, eqb-refl}
 use lib.Pow.{pow-pos, pow-mono, pow-add}
 use lib.Ieee.{binary64, size, nearest}
 use lib.Ieee.Digits.{size-lt, size-reaches}
-use Rattle.math.specs.Hypot.{whole-root, dropped, kept}
-use Rattle.math.specs.Nearest.{Held, NearestRoot}
-use Rattle.math.proofs.Poly.{poly}
-use Rattle.math.proofs.Roots.{le-or-lt, sq-le, sq-mono, sq-lt}
-use Rattle.math.proofs.Whole.{Digits, whole-root-in, kept-is}
+use Rattle.hypotenuse.specs.Hypot.{whole-root, dropped, kept}
+use Rattle.hypotenuse.specs.Nearest.{Held, NearestRoot}
+use Rattle.hypotenuse.proofs.Poly.{poly}
+use Rattle.hypotenuse.proofs.Order.{le-or-lt, sq-le, sq-mono, sq-lt}
+use Rattle.hypotenuse.proofs.Whole.{Digits, whole-root-in, kept-is}
 
 -- ---- the digits that the definition keeps
 from-size : (s k : ℕ) → size s ≤ 106 + 2 * k → (0 < k → 104 + 2 * k < size s) → Digits s k (whole-root 53 (s / 2 ^ (2 * k)))
@@ -83,6 +83,9 @@ module _ (w k : ℕ) (full : 0 < k → 2 ^ 52 ≤ w) where
       back : (k j : ℕ) → k ≤ j → j ≡ j - k + k
       back k j h = omega arith
 
+      digits : z < 2 ^ 53 → z ≤ 2 ^ 53
+      digits h = omega arith
+
       some : (k j : ℕ) → j < k → 0 < k
       some k j h = omega arith
 
@@ -96,7 +99,7 @@ module _ (w k : ℕ) (full : 0 < k → 2 ^ 52 ≤ w) where
       go (inl h) = multiple Z (z * 2 ^ (j - k)) (e ∙ ap (λ (x : ℕ). z * x) (ap (λ (x : ℕ). 2 ^ x) (back k j h) ∙ pow-add 2 (j - k) k) ∙ sym (mul-assoc z (2 ^ (j - k)) (2 ^ k)))
       go (inr h) =
           inl (subst (λ (x : ℕ). x ≤ w * 2 ^ k) (sym e)
-          (le-trans (mul-le-mul-right (2 ^ j) (le-of-lt l)) (le-trans (halved (2 ^ j) (2 ^ k) (lower-pow h)) (mul-le-mul-right (2 ^ k) (full (some k j h))))))
+          (le-trans (mul-le-mul-right (2 ^ j) (digits l)) (le-trans (halved (2 ^ j) (2 ^ k) (lower-pow h)) (mul-le-mul-right (2 ^ k) (full (some k j h))))))
         where
           halved : (J K : ℕ) → 2 * J ≤ K → 2 ^ 53 * J ≤ 2 ^ 52 * K
           halved J K a = omega arith
@@ -232,7 +235,7 @@ pub held-of : (q k : ℕ) → q ≤ 2 ^ 53 → Held (q * 2 ^ k)
 held-of q k h = go (eq-or-lt-of-le h)
   where
     go : (q ≡ 2 ^ 53) ⊎ (q < 2 ^ 53) → Held (q * 2 ^ k)
-    go (inr l) = (q, k, (refl, l))
+    go (inr l) = (q, k, (refl, omega arith))
     go (inl e) = (1, 53 + k, (ap (λ (x : ℕ). x * 2 ^ k) e ∙ sym (one (2 ^ (53 + k)) ∙ pow-add 2 53 k), omega arith))
       where
         one : (x : ℕ) → 1 * x ≡ x
