@@ -1,5 +1,5 @@
 -- An offset whose numbers go into lent output: the offset's own refusal first, and question 20 last. Two numbers a vertex are needed. Assumes nothing.
-use Prim.Native.Nat.{ℕ, _*_}
+use Prim.Native.Nat.{_*_}
 use mathlib.Core.Bool.{Bool, cond}
 use mathlib.Core.List.{List}
 use lib.Ieee.{Float}
