@@ -160,7 +160,7 @@ offset-demand o outward d q =
 
 -- ---- the shape beside a refusal
 
-no-outline-empty : EmptyOutline no-outline
+pub no-outline-empty : EmptyOutline no-outline
 unfolding no-outline
 no-outline-empty = record { count = refl; numbers = refl }
 
@@ -226,7 +226,7 @@ offset-empty o outward d = offset-empty-of o outward d .empty
 -- ---- before the front is loaded
 
 -- 0 and −0 pass 13 and 14
-zero-granted : (d : Float) → eq d zero-float ≡ true → granted (check-distance d) ≡ true
+pub zero-granted : (d : Float) → eq d zero-float ≡ true → granted (check-distance d) ≡ true
 unfolding check-distance granted number values finite le lt eq lib.Ieee.ofBits
 zero-granted nan q = absurd (false≢true q)
 zero-granted (inf s) q = absurd (false≢true q)
