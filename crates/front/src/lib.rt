@@ -154,3 +154,13 @@ pub struct Sweep {
     pub ended: bool,
     pub refusal: Refusal,
 }
+
+// A ring of the finished front while it is walked: its vertices, and the slots passed in this ring and the earlier ones.
+pub struct Walk {
+    pub at: usize,
+    pub seen: [bool; 128],
+    pub points: [f64; 256],
+    pub count: usize,
+    pub closed: bool,
+    pub lost: bool,
+}

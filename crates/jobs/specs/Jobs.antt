@@ -14,7 +14,7 @@ use Rattle.error.specs.declared.Refusal.the-variants.{Lengths, Odd}
 use Rattle.region.specs.Regions.{no-region, with-outer}
 use Rattle.error.specs.Refusals.{granted}
 use Rattle.offset.specs.Offsets.{offset}
-use Rattle.region.specs.Insets.{offset-plain, region-inset}
+use Rattle.region.specs.Insets.{region-plain, region-inset}
 use Rattle.polygon.specs.Outlines.{new-outline, check-finite}
 use Rattle.region.specs.Checks.{load-rings, region-loaded, total}
 
@@ -31,10 +31,10 @@ as-region r =
 
 unfoldable pub job-outline : Bool → Float → NewOutline → RegionOffset
 job-outline outward d o =
-    cond (granted (o .refusal)) (as-region (offset (o .shape) outward d)) (offset-plain (o .refusal) no-region)
+    cond (granted (o .refusal)) (as-region (offset (o .shape) outward d)) (region-plain (o .refusal) no-region)
 
 unfoldable pub job-region : Float → NewRegion → RegionOffset
-job-region d r = cond (granted (r .refusal)) (region-inset (r .shape) d) (offset-plain (r .refusal) no-region)
+job-region d r = cond (granted (r .refusal)) (region-inset (r .shape) d) (region-plain (r .refusal) no-region)
 
 unfoldable pub job-rings : Bool → Float → List ℕ → List Float → RegionOffset
 job-rings outward d lengths ps =
@@ -44,12 +44,12 @@ job-rings outward d lengths ps =
 unfoldable pub job-finite : Bool → Float → List ℕ → List Float → Refusal → RegionOffset
 job-finite outward d lengths ps r =
     cond (granted r)
-    (cond (ltb 0 (length lengths) && eqb (2 * total lengths) (length ps)) (job-rings outward d lengths ps) (offset-plain Lengths no-region))
-    (offset-plain r no-region)
+    (cond (ltb 0 (length lengths) && eqb (2 * total lengths) (length ps)) (job-rings outward d lengths ps) (region-plain Lengths no-region))
+    (region-plain r no-region)
 
 unfoldable pub job : Bool → Float → List ℕ → List Float → RegionOffset
 job outward d lengths ps =
-    cond (eqb (length ps % 2) 0) (job-finite outward d lengths ps (check-finite ps)) (offset-plain Odd no-region)
+    cond (eqb (length ps % 2) 0) (job-finite outward d lengths ps (check-finite ps)) (region-plain Odd no-region)
 
 -- opens every definition above, for a proof that computes with all of them
 unfoldable pub open-jobs : Unit {0}

@@ -1,5 +1,5 @@
 -- Demand 3 for a region: nothing is assumed of the floats.
-use mathlib.Core.Path.{_≡_, sym, subst}
+use mathlib.Core.Path.{_≡_, refl}
 use mathlib.Core.Logic.{_≢_}
 use mathlib.Core.Bool.{true, false, _&&_}
 use Prim.Native.Nat.{ℕ, zero, suc, _*_, _≤_, _<_}
@@ -20,23 +20,17 @@ use Rattle.region.specs.Checks.{proper-step, proper-region}
 use Rattle.region.specs.Insets.{load-hole-step, load-region}
 use Rattle.front.specs.Demand.{Demand}
 use Rattle.region.specs.Demand.{edges-of, RegionDemand}
-use Rattle.front.proofs.Demand.Occ.{by-cases}
-use Rattle.loops.proofs.Laws.{rounds-keep}
+use Rattle.offset.proofs.Choices.{all-pass}
 use Rattle.front.proofs.Demand.Rates.{Bounded, SmallPoint, rates-bounded}
 use Rattle.front.proofs.Demand.Loading.{Load-is, load-law, load-other, none-other}
 use Rattle.front.proofs.Demand.Shapes.{Proper, proper-is, vertices, lines-sound, and-left, and-right}
 use Rattle.front.proofs.Demand.Shown.{demand}
 use Rattle.front.proofs.Demand.Whole.{ring-load}
 
-hole-proper : (r : Region) (n : ℕ) → rounds (proper-step r) n true ≡ true → (k : ℕ) → k < n → Proper 32 (hole-points r k) (hole-count r k)
+pub hole-proper : (r : Region) (n : ℕ) → rounds (proper-step r) n true ≡ true → (k : ℕ) → k < n → Proper 32 (hole-points r k) (hole-count r k)
 unfolding proper-step
-hole-proper r n q =
-    rounds-keep (proper-step r) (λ i s. s ≡ true → (k : ℕ) → k < i → Proper 32 (hole-points r k) (hole-count r k)) true (λ z k h. absurd (omega arith))
-    (λ i s h z k l. by-cases k i
-    (λ e. subst (λ (j : ℕ). Proper 32 (hole-points r j) (hole-count r j)) (sym e)
-    (proper-is 32 (hole-points r i) (hole-count r i) (and-right s (proper 32 (hole-points r i) (hole-count r i)) z)))
-    (λ d. h (and-left s (proper 32 (hole-points r i) (hole-count r i)) z) k (omega arith)))
-    n q
+hole-proper r n q k l =
+    proper-is 32 (hole-points r k) (hole-count r k) (all-pass (proper-step r) (λ i. proper 32 (hole-points r i) (hole-count r i)) (λ i s. refl) n q k l)
 
 module _ (r : Region) (d : Float) (q : proper-region r ≡ true) where
   outer-proper : Proper 128 (r .outer .points) (r .outer .count)
@@ -78,11 +72,18 @@ module _ (r : Region) (d : Float) (q : proper-region r ≡ true) where
   enough-edges zero h = omega (arith, outer-proper .three)
   enough-edges (suc n) h = omega (arith, enough-edges n (omega arith), holes-proper n h .three)
 
+  pub enough : 2 * suc (r .holes) ≤ edges-of r (r .holes)
+  enough = enough-edges (r .holes) (omega arith)
+
+  pub region-load-other : number ((load-region r origin d) .refusal) ≢ 18
+  unfolding load-region
+  region-load-other = holes-other (r .holes)
+
   -- of all the edges, in one ring more than there are holes
   over-rings : finite d ≡ true → Demand (edges-of r (r .holes)) (suc (r .holes)) d (load-region r origin d)
   unfolding load-region
   over-rings near =
-      demand Bounded (λ f t l. rates-bounded f l t) d near (edges-of r (r .holes)) (suc (r .holes)) (enough-edges (r .holes) (omega arith))
+      demand Bounded (λ f t l. rates-bounded f l t) d near (edges-of r (r .holes)) (suc (r .holes)) enough
       (rounds (load-hole-step r origin d) (r .holes) outer-load) (holes-load (r .holes) (omega arith)) (holes-other (r .holes))
 
 pub region-demand : RegionDemand
