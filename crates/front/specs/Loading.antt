@@ -1,4 +1,4 @@
--- offset.rs: the rings of a shape are loaded into the front, edge by edge. Assumes nothing.
+-- offset.rs, `offset_rings`, its first loop: the rings of a shape are loaded into the front, edge by edge. Assumes nothing.
 use Prim.Native.Nat.{ℕ, _+_, _-_}
 use mathlib.Core.Bool.{Bool, true, cond}
 use mathlib.Core.List.{List}
@@ -21,6 +21,7 @@ use Rattle.front.specs.Lines.{through}
 use Rattle.error.specs.Refusals.{granted}
 use Rattle.loops.specs.Loop.{rounds}
 
+-- the front starts as 128 copies of `Edge::UNUSED`
 unfoldable pub no-front : List Edge
 no-front = replicate 128 unused
 
@@ -30,14 +31,16 @@ loaded-nothing = record { edges = no-front; used = 0; refusal = Granted }
 unfoldable pub load-refused : Loaded → Refusal → Loaded
 load-refused s r = record { edges = s .edges; used = s .used; refusal = r }
 
--- vertex k of a ring that is walked forwards or backwards, relative to the origin
+-- the closure `at`: vertex k of a ring that is walked forwards or backwards, relative to the origin, which is the first vertex of the shape
 unfoldable pub load-vertex : List Float → ℕ → Bool → PlanarPoint → ℕ → PlanarPoint
 load-vertex ps n back origin k = sub (vertex-at ps (cond back (n - 1 - k) k)) origin
 
+-- edge k of a ring of n, whose first edge stands in the slot `first`
 unfoldable pub loaded-edge : Line → ℕ → ℕ → ℕ → PlanarPoint → Edge
 loaded-edge l first n k a =
     record { line = l; previous = first + cond (eqb k 0) (n - 1) (k - 1); next = first + following n k; alive = true; start = a; since = zero-float }
 
+-- edge by edge, a zero length (16) is asked before the room for that edge (15), which names 128 plus the edges of that ring still to load
 unfoldable pub load-line : Float → ℕ → ℕ → ℕ → PlanarPoint → Loaded → Through → Loaded
 load-line d first n k a s NoLine = load-refused s (Collapses d)
 load-line d first n k a s (Along l) =
@@ -54,6 +57,7 @@ load-step ps n back origin d first k s =
     (load-edge d first n k (load-vertex ps n back origin k) (load-vertex ps n back origin (following n k)) s)
     s
 
+-- one ring of n vertices, into the slots after those in use
 unfoldable pub load-ring : List Float → ℕ → Bool → PlanarPoint → Float → Loaded → Loaded
 load-ring ps n back origin d s = rounds (load-step ps n back origin d (s .used)) n s
 

@@ -11,7 +11,7 @@ use Rattle.plane.specs.declared.PlanarPoint.{PlanarPoint}
 use Rattle.front.specs.declared.Edge.{Edge}
 use Rattle.front.specs.declared.Vertex.{Vertex}
 use Rattle.front.specs.declared.Vertex.the-variants.{NoVertex, Moving}
-use Rattle.front.specs.Edges.{edge, set-start, remove, vertex, moved, lost, anchor-at, anchor, then-remove, collapse}
+use Rattle.front.specs.Edges.{edge, set-start, remove, vertex, altered, stalled, anchor-at, anchor, then-remove, collapse}
 use Rattle.front.specs.Splitting.{free-step, free, one-ring, split-linked}
 use Rattle.front.specs.Demand.{Links, bit, links}
 use Rattle.front.proofs.Demand.Links
@@ -26,8 +26,8 @@ use Rattle.front.proofs.Demand.Tidying.{Tidied}
 -- ---- a collapse
 
 collapse-at : (f : List Edge) (events bound x s : ℕ) (t : Float) → Tidied f events bound → links f .live x ≡ 1 → (v : Vertex)
-    → (then-remove x (anchor-at f s t v)) .lost ≡ false → Kept ((then-remove x (anchor-at f s t v)) .edges) (suc events) bound
-unfolding then-remove anchor-at moved lost
+    → (then-remove x (anchor-at f s t v)) .stalled ≡ false → Kept ((then-remove x (anchor-at f s t v)) .edges) (suc events) bound
+unfolding then-remove anchor-at altered stalled
 collapse-at f events bound x s t k a NoVertex = λ q. absurd (true≢false q)
 collapse-at f events bound x s t k a (Moving p v) = λ q.
     let g : List Edge = set-start f s p t in
@@ -39,7 +39,7 @@ collapse-at f events bound x s t k a (Moving p v) = λ q.
     }
 
 pub collapse-law : (f : List Edge) (events bound x : ℕ) (t : Float) → Tidied f events bound → links f .live x ≡ 1
-    → (collapse f x t) .lost ≡ false → Kept ((collapse f x t) .edges) (suc events) bound
+    → (collapse f x t) .stalled ≡ false → Kept ((collapse f x t) .edges) (suc events) bound
 unfolding collapse anchor
 collapse-law f events bound x t k a = collapse-at f events bound x ((edge f x) .next) t k a (vertex f ((edge f x) .next) t)
 

@@ -120,21 +120,21 @@ le-nan nan = refl
 le-nan (inf s) = refl
 le-nan (fin s m e) = refl
 
-abbrev lost-point : PlanarPoint
-lost-point = record { east = nan; north = nan }
+abbrev nan-point : PlanarPoint
+nan-point = record { east = nan; north = nan }
 
-moved-nan : (p v : PlanarPoint) → moved-by p v nan ≡ lost-point
+moved-nan : (p v : PlanarPoint) → moved-by p v nan ≡ nan-point
 unfolding moved-by lib.Ieee.mul
 moved-nan p v = λ i. record { east = add-nan (p .east) i; north = add-nan (p .north) i }
 
-dot-nan : (u : PlanarPoint) → dot u lost-point ≡ nan
+dot-nan : (u : PlanarPoint) → dot u nan-point ≡ nan
 unfolding dot lib.Ieee.add
 dot-nan u = ap (λ (x : Float). add x (mul (u .north) nan)) (mul-nan (u .east))
 
 -- a vertex that is nowhere hits nothing
-missed : (u from to : PlanarPoint) → hit-within u lost-point from to ≡ false
+missed : (u from to : PlanarPoint) → hit-within u nan-point from to ≡ false
 unfolding hit-within sub lib.Ieee.sub lib.Ieee.add
-missed u from to = ap (λ (b : Bool). b && le (neg on-edge) (dot u (sub to lost-point))) (ap (le (neg on-edge)) (dot-nan u) ∙ le-nan (neg on-edge))
+missed u from to = ap (λ (b : Bool). b && le (neg on-edge) (dot u (sub to nan-point))) (ap (le (neg on-edge)) (dot-nan u) ∙ le-nan (neg on-edge))
 
 pub up-pos : (e : ℤ) → 0 < up e
 up-pos (pos k) = pow-pos k

@@ -29,7 +29,8 @@ use Rattle.front.proofs.Demand.Occ.{by-cases}
 use Rattle.front.proofs.Demand.Rings.{Ring, spare, occs-nil}
 use Rattle.front.proofs.Demand.Links.{RingsOf}
 use Rattle.front.proofs.Demand.Load.{RingAt, last-ring, last-spare, add-ring}
-use Rattle.front.proofs.Demand.Views.{edge-in, edge-out, edge-here, edge-there}
+use Rattle.front.proofs.EdgeLaws.{edge-in, edge-out}
+use Rattle.front.proofs.Demand.Views.{edge-here, edge-there}
 use Rattle.loops.proofs.Laws.{rounds-keep}
 use Rattle.front.proofs.Demand.Lines.{Lined, put}
 

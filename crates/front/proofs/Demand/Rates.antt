@@ -22,7 +22,7 @@ use Rattle.math.specs.Number.{add, div, one}
 use Rattle.front.specs.Thresholds.{opposite}
 use Rattle.plane.specs.Plane.{sub, dot}
 use Rattle.front.specs.Edges.{unused, edge, vertex-by, vertex-of, vertex, length-to, length-from, edge-length}
-use Rattle.front.specs.Lines.{along as direction, normal, velocity-by, velocity}
+use Rattle.front.specs.Lines.{direction, normal, velocity-by, velocity}
 use Rattle.front.proofs.Demand.Lines.{Lined}
 use Rattle.front.proofs.Demand.Search.{Rates}
 use Rattle.front.proofs.Demand.Small.{Small, Least, wider, add-small, sub-small, mul-small, div-small, down-pos}

@@ -19,14 +19,14 @@ use Rattle.front.specs.declared.SoonestSplit.{SoonestSplit}
 use Rattle.front.specs.declared.SoonestSplit.the-variants.{NoSplit, SplitAfter}
 use Rattle.front.specs.declared.EventSearch.{EventSearch}
 use Rattle.front.specs.declared.Event.{Event}
-use Rattle.front.specs.declared.Event.the-variants.{Lost, Never, Collapse, Split}
+use Rattle.front.specs.declared.Event.the-variants.{Stalled, Never, Collapse, Split}
 use Rattle.math.specs.Number
 use Rattle.math.specs.Number.{one, add, mul, div, zero-float, fmax}
 use Rattle.front.specs.Thresholds.{tie}
 use Rattle.plane.specs.Plane.{dot, cross}
 use Rattle.front.specs.Edges.{edge, vertex, moved-by, edge-length}
-use Rattle.front.specs.Lines.{along as direction, normal}
-use Rattle.front.specs.NextEvent.{look-lost, look-split, look-collapse, sooner, late, hit-within, hit-to, hit-from, hit-then, hit-after, hit-closing, hit-at, candidate, hit-step, hits, look-turn, shrinking, look-length, look-vertex, look-at, look-step, look, choose, event-of, next-event}
+use Rattle.front.specs.Lines.{direction, normal}
+use Rattle.front.specs.NextEvent.{look-stalled, look-split, look-collapse, sooner, late, hit-within, hit-to, hit-from, hit-then, hit-after, hit-closing, hit-at, candidate, hit-step, hits, look-turn, shrinking, look-length, look-vertex, look-at, look-step, look, choose, event-of, next-event}
 use Rattle.front.specs.Demand.{bit, links}
 use Rattle.loops.proofs.Laws.{rounds-keep}
 use Rattle.front.proofs.Demand.Forward.{Forward, hit-forward, shrink-forward}
@@ -53,16 +53,16 @@ module _ (f : List Edge) (t : Float) (rates : Rates f t) where
   either true r s h k = h
   either false r s h k = k
 
-  lost-fine : (s : EventSearch) → Fine s → Fine (look-lost s)
-  unfolding look-lost
-  lost-fine s h = record { gone = h .gone; struck = h .struck }
+  stalled-fine : (s : EventSearch) → Fine s → Fine (look-stalled s)
+  unfolding look-stalled
+  stalled-fine s h = record { gone = h .gone; struck = h .struck }
 
   -- ---- a vertex against an edge
 
   module _ (v e : ℕ) (w : Hits f v e) where
     to-fine : (u : PlanarPoint) (step : Float) (p vel from : PlanarPoint) (s : EventSearch) (x : Vertex) → lt step zero-float ≡ false → Fine s → Fine (hit-to v e u step (moved-by p vel step) from s x)
     unfolding hit-to look-split
-    to-fine u step p vel from s NoVertex q h = lost-fine s h
+    to-fine u step p vel from s NoVertex q h = stalled-fine s h
     to-fine u step p vel from s (Moving to z) q h = go (hit-within u (moved-by p vel step) from to) refl
       where
         go : (b : Bool) → hit-within u (moved-by p vel step) from to ≡ b → Fine (cond b (look-split s (SplitAfter v e step)) s)
@@ -71,7 +71,7 @@ module _ (f : List Edge) (t : Float) (rates : Rates f t) where
 
     from-fine : (target : Edge) (step at : Float) (p vel : PlanarPoint) (s : EventSearch) (x : Vertex) → lt step zero-float ≡ false → Fine s → Fine (hit-from f v e target step at (moved-by p vel step) s x)
     unfolding hit-from
-    from-fine target step at p vel s NoVertex q h = lost-fine s h
+    from-fine target step at p vel s NoVertex q h = stalled-fine s h
     from-fine target step at p vel s (Moving from z) q h = to-fine (direction (target .line)) step p vel from s (vertex f (target .next) at) q h
 
     after-fine : (target : Edge) (p vel : PlanarPoint) (step : Float) (s : EventSearch) → Fine s → Fine (hit-after f t v e target p vel step s)
@@ -92,7 +92,7 @@ module _ (f : List Edge) (t : Float) (rates : Rates f t) where
 
   hits-of : (v e : ℕ) (s : EventSearch) → links f .live v ≡ 1 → candidate v ((edge f v) .previous) e (edge f e) s ≡ true → Hits f v e
   unfolding candidate
-  hits-of v e s a q = go (s .lost) ((edge f e) .alive) refl (eqb e v) refl (eqb e ((edge f v) .previous)) refl q
+  hits-of v e s a q = go (s .stalled) ((edge f e) .alive) refl (eqb e v) refl (eqb e ((edge f v) .previous)) refl q
     where
       go : (l : Bool) → (i : Bool) → (edge f e) .alive ≡ i → (j : Bool) → eqb e v ≡ j → (k : Bool) → eqb e ((edge f v) .previous) ≡ k
           → (not l && (i && (not j && not k))) ≡ true → Hits f v e
@@ -148,17 +148,17 @@ module _ (f : List Edge) (t : Float) (rates : Rates f t) where
 
   length-fine : (x : ℕ) (p vel : PlanarPoint) (s : EventSearch) (l : Length) → edge-length f x t ≡ l → links f .live x ≡ 1 → Fine s → Fine (look-length f t x (edge f x) p vel s l)
   unfolding look-length
-  length-fine x p vel s NoLength q a h = lost-fine s h
+  length-fine x p vel s NoLength q a h = stalled-fine s h
   length-fine x p vel s (Long l rate) q a h = turn-fine x p vel (shrinking x l rate s) a (shrinking-fine x l rate s a q h)
 
   vertex-fine : (x : ℕ) (s : EventSearch) (v : Vertex) → links f .live x ≡ 1 → Fine s → Fine (look-vertex f t x (edge f x) s v)
   unfolding look-vertex
-  vertex-fine x s NoVertex a h = lost-fine s h
+  vertex-fine x s NoVertex a h = stalled-fine s h
   vertex-fine x s (Moving p vel) a h = length-fine x p vel s (edge-length f x t) refl a h
 
   step-fine : (x : ℕ) (s : EventSearch) → Fine s → Fine (look-step f t x s)
   unfolding look-step look-at
-  step-fine x s h = go (s .lost) ((edge f x) .alive) refl
+  step-fine x s h = go (s .stalled) ((edge f x) .alive) refl
     where
       go : (l a : Bool) → (edge f x) .alive ≡ a → Fine (cond (not l && a) (look-vertex f t x (edge f x) s (vertex f x t)) s)
       go true a q = h
@@ -167,12 +167,12 @@ module _ (f : List Edge) (t : Float) (rates : Rates f t) where
 
   look-fine : Fine (look f t)
   unfolding look
-  look-fine = rounds-keep (look-step f t) (λ i s. Fine s) (record { lost = false; collapse = NoCollapse; split = NoSplit }) (record { gone = tt; struck = tt }) step-fine 128
+  look-fine = rounds-keep (look-step f t) (λ i s. Fine s) (record { stalled = false; collapse = NoCollapse; split = NoSplit }) (record { gone = tt; struck = tt }) step-fine 128
 
   -- ---- the event
 
   abbrev pub Event-is : Event → Type 0
-  Event-is Lost = Unit {0}
+  Event-is Stalled = Unit {0}
   Event-is Never = Unit {0}
   Event-is (Collapse x s) = (links f .live x ≡ 1) × Forward s
   Event-is (Split v e s) = Hits f v e × Forward s
@@ -190,8 +190,8 @@ module _ (f : List Edge) (t : Float) (rates : Rates f t) where
 
   pub event-fine : Event-is (next-event f t)
   unfolding next-event event-of
-  event-fine = go ((look f t) .lost)
+  event-fine = go ((look f t) .stalled)
     where
-      go : (b : Bool) → Event-is (cond b Lost (choose t ((look f t) .collapse) ((look f t) .split)))
+      go : (b : Bool) → Event-is (cond b Stalled (choose t ((look f t) .collapse) ((look f t) .split)))
       go true = tt
       go false = choose-fine ((look f t) .collapse) ((look f t) .split) (look-fine .gone) (look-fine .struck)

@@ -22,8 +22,8 @@ use Rattle.math.specs.Number.{one, add, mul, zero-float, abs}
 use Rattle.front.specs.Thresholds.{parallel, opposite, on-edge, tie}
 use Rattle.plane.specs.Plane.{dot, cross}
 use Rattle.loops.specs.Loop.{rounds}
-use Rattle.front.specs.Edges.{edge, set-start, kill, remove, ring-len, vertex, moved, lost, anchor-at, anchor, then-remove, collapse, edge-length}
-use Rattle.front.specs.Lines.{along as direction, meeting}
+use Rattle.front.specs.Edges.{edge, set-start, kill, remove, ring-len, vertex, altered, stalled, anchor-at, anchor, then-remove, collapse, edge-length}
+use Rattle.front.specs.Lines.{direction, meeting}
 use Rattle.front.specs.Tidying.{tidy-length, tidy-turn, tidy-edge, tidy-at, unless-found, find-step, find-tidy, Drop, drop-on, drop-step, drop-ring, drop-straight, meeting-or, drop-both, spike-to, spike-from, drop-spike, tidy-by, tidy-once, tidy-step, tidy}
 use Rattle.front.specs.Demand.{Links, bit, links}
 use Rattle.front.proofs.Demand.Links
@@ -178,13 +178,13 @@ module _ (f : List Edge) (l : length f ≡ 128) (x : ℕ) where
 
 -- ---- one step mended
 
--- a step that lost no vertex left fewer edges
+-- a step that met no vertex without a velocity left fewer edges
 abbrev Mended : Front → ℕ → ℕ → ℕ → Type 0
-Mended s events bound m = s .lost ≡ false → Less (s .edges) events bound m
+Mended s events bound m = s .stalled ≡ false → Less (s .edges) events bound m
 
 anchored : (f : List Edge) (events bound s x : ℕ) (t : Float) (k : Kept f events bound) → links f .live x ≡ 1 → (v : Vertex)
     → Mended (then-remove x (anchor-at f s t v)) events bound (edges (k .held .rs))
-unfolding then-remove anchor-at moved lost starts
+unfolding then-remove anchor-at altered stalled starts
 anchored f events bound s x t k a NoVertex = λ q. absurd (true≢false q)
 anchored f events bound s x t k a (Moving p v) = λ q.
     removes (set-start f s p t) events bound x (starts f events bound s p t k) (start-same f (k .size) s p t .lives x ∙ a)
@@ -203,7 +203,7 @@ apart f events bound x k a h =
 
 both-gone : (f : List Edge) (events bound x : ℕ) (p : PlanarPoint) (t : Float) (k : Kept f events bound) → links f .live x ≡ 1 → 3 ≤ ring-len f x
     → Mended (drop-both f x ((edge f x) .next) ((edge f ((edge f x) .next)) .next) p t) events bound (edges (k .held .rs))
-unfolding drop-both moved starts
+unfolding drop-both altered starts
 both-gone f events bound x p t k a h = λ q.
     let n : ℕ = (edge f x) .next in
     let an : links f .live n ≡ 1 = live-next (links f) (k .held .rs) (k .held .rings) x a in
@@ -217,14 +217,14 @@ both-gone f events bound x p t k a h = λ q.
 
 spike-to-gone : (f : List Edge) (events bound x before : ℕ) (t : Float) (p : PlanarPoint) (k : Kept f events bound) → links f .live x ≡ 1 → 3 ≤ ring-len f x → (v : Vertex)
     → Mended (spike-to f x before ((edge f x) .next) ((edge f ((edge f x) .next)) .next) t p v) events bound (edges (k .held .rs))
-unfolding spike-to lost
+unfolding spike-to stalled
 spike-to-gone f events bound x before t p k a h NoVertex = λ q. absurd (true≢false q)
 spike-to-gone f events bound x before t p k a h (Moving q w) =
     both-gone f events bound x (meeting-or p q (meeting ((edge f before) .line) ((edge f ((edge f ((edge f x) .next)) .next)) .line) t)) t k a h
 
 spike-from-gone : (f : List Edge) (events bound x before : ℕ) (t : Float) (k : Kept f events bound) → links f .live x ≡ 1 → 3 ≤ ring-len f x → (v : Vertex)
     → Mended (spike-from f x before ((edge f x) .next) ((edge f ((edge f x) .next)) .next) t v) events bound (edges (k .held .rs))
-unfolding spike-from lost
+unfolding spike-from stalled
 spike-from-gone f events bound x before t k a h NoVertex = λ q. absurd (true≢false q)
 spike-from-gone f events bound x before t k a h (Moving p v) =
     spike-to-gone f events bound x before t p k a h (vertex f ((edge f ((edge f x) .next)) .next) t)
@@ -253,14 +253,14 @@ small-gone f events bound x k a h =
 
 -- ---- the loop
 
--- after i rounds that lost nothing: each took an edge or more out, until one found nothing wrong
+-- after i rounds, all of them with velocities: each took an edge or more out, until one found nothing wrong
 record Tried (events bound i : ℕ) (s : Front) : Type 0 where
   kept : Kept (s .edges) events bound
   left : s .changed ≡ true → edges (kept .held .rs) + i ≤ 128
   clean : s .changed ≡ false → Links.Tidy 128 (links (s .edges))
 
 abbrev TriedAt : ℕ → ℕ → ℕ → Front → Type 0
-TriedAt events bound i s = s .lost ≡ false → Tried events bound i s
+TriedAt events bound i s = s .stalled ≡ false → Tried events bound i s
 
 module _ (events bound : ℕ) (t : Float) (f : List Edge) (k : Kept f events bound) (i : ℕ) (left : edges (k .held .rs) + i ≤ 128) where
   mended-on : (s : Front) → s .changed ≡ true → Mended s events bound (edges (k .held .rs)) → TriedAt events bound (suc i) s
@@ -271,36 +271,36 @@ module _ (events bound : ℕ) (t : Float) (f : List Edge) (k : Kept f events bou
   }
 
   then-changed : (x : ℕ) (s : Front) → s .changed ≡ true → (then-remove x s) .changed ≡ true
-  unfolding then-remove moved
-  then-changed x s c = go (s .lost)
+  unfolding then-remove altered
+  then-changed x s c = go (s .stalled)
     where
-      go : (b : Bool) → (cond b s (moved (remove (s .edges) x))) .changed ≡ true
+      go : (b : Bool) → (cond b s (altered (remove (s .edges) x))) .changed ≡ true
       go true = c
       go false = refl
 
   anchor-changed : (g : List Edge) (x : ℕ) (v : Vertex) → (anchor-at g x t v) .changed ≡ true
-  unfolding anchor-at moved lost
+  unfolding anchor-at altered stalled
   anchor-changed g x NoVertex = refl
   anchor-changed g x (Moving p v) = refl
 
   to-changed : (g : List Edge) (x before m after : ℕ) (p : PlanarPoint) (w : Vertex) → (spike-to g x before m after t p w) .changed ≡ true
-  unfolding spike-to lost drop-both moved
+  unfolding spike-to stalled drop-both altered
   to-changed g x before m after p NoVertex = refl
   to-changed g x before m after p (Moving q w) = refl
 
   spike-changed : (g : List Edge) (x before m after : ℕ) (v : Vertex) → (spike-from g x before m after t v) .changed ≡ true
-  unfolding spike-from lost
+  unfolding spike-from stalled
   spike-changed g x before m after NoVertex = refl
   spike-changed g x before m after (Moving p v) = to-changed g x before m after p (vertex g after t)
 
   once-case : (r : Tidy) → Found f t 128 r → TriedAt events bound (suc i) (tidy-by f t r)
-  unfolding tidy-by moved collapse anchor drop-straight drop-spike
+  unfolding tidy-by altered collapse anchor drop-straight drop-spike
   once-case Settled h q = record {
     kept = k;
     left = λ e. absurd (false≢true e);
     clean = λ e x a. subst (λ (m : ℕ). 3 ≤ m) (ring-len-same f events bound x k a) (h x (live-in f x a) a);
   }
-  once-case (SmallRing x) h q = mended-on (moved (drop-ring f x)) refl (λ e. small-gone f events bound x k (h .0) (h .1)) q
+  once-case (SmallRing x) h q = mended-on (altered (drop-ring f x)) refl (λ e. small-gone f events bound x k (h .0) (h .1)) q
   once-case (Straight x) h q =
       let m : ℕ = (edge f x) .next in
       let v : Vertex = vertex f ((edge f m) .next) t in
@@ -323,9 +323,9 @@ module _ (events bound : ℕ) (t : Float) where
 
   step-case : (i : ℕ) (s : Front) → TriedAt events bound i s → TriedAt events bound (suc i) (tidy-step t i s)
   unfolding tidy-step
-  step-case i s h = go (s .changed) refl (s .lost) refl
+  step-case i s h = go (s .changed) refl (s .stalled) refl
     where
-      go : (c : Bool) → s .changed ≡ c → (b : Bool) → s .lost ≡ b → TriedAt events bound (suc i) (cond (c && not b) (tidy-once (s .edges) t) s)
+      go : (c : Bool) → s .changed ≡ c → (b : Bool) → s .stalled ≡ b → TriedAt events bound (suc i) (cond (c && not b) (tidy-once (s .edges) t) s)
       go false qc b qb q = record { kept = h q .kept; left = λ e. absurd (false≢true (sym qc ∙ e)); clean = h q .clean }
       go true qc true qb q = absurd (true≢false (sym qb ∙ q))
       go true qc false qb q = once-at (s .edges) i (h qb .kept) (h qb .left qc) q
@@ -335,19 +335,19 @@ pub record Tidied (f : List Edge) (events bound : ℕ) : Type 0 where
   pub kept : Kept f events bound
   pub clean : Links.Tidy 128 (links f)
 
--- tidying, where it loses no vertex, leaves rings of three edges or more
-pub tidy-law : (f : List Edge) (events bound : ℕ) (t : Float) → Kept f events bound → (tidy f t) .lost ≡ false → Tidied ((tidy f t) .edges) events bound
-unfolding tidy moved
-tidy-law f events bound t k = go (rounds (tidy-step t) 129 (moved f)) (rounds-keep (tidy-step t) (TriedAt events bound) (moved f) first (step-case events bound t) 129)
+-- tidying, where it is not stalled, leaves rings of three edges or more
+pub tidy-law : (f : List Edge) (events bound : ℕ) (t : Float) → Kept f events bound → (tidy f t) .stalled ≡ false → Tidied ((tidy f t) .edges) events bound
+unfolding tidy altered
+tidy-law f events bound t k = go (rounds (tidy-step t) 129 (altered f)) (rounds-keep (tidy-step t) (TriedAt events bound) (altered f) first (step-case events bound t) 129)
   where
-    first : TriedAt events bound 0 (moved f)
+    first : TriedAt events bound 0 (altered f)
     first q = record {
       kept = k;
       left = λ e. omega (arith, edges-le (links f .next) (links f .prev) (links f .live) 128 (k .held .rs) (k .held .rings) (k .held .slots));
       clean = λ e. absurd (true≢false e);
     }
 
-    go : (s : Front) → TriedAt events bound 129 s → s .lost ≡ false → Tidied (s .edges) events bound
+    go : (s : Front) → TriedAt events bound 129 s → s .stalled ≡ false → Tidied (s .edges) events bound
     go s h q = settle (s .changed) refl
       where
         settle : (c : Bool) → s .changed ≡ c → Tidied (s .edges) events bound
