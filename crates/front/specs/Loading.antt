@@ -1,6 +1,7 @@
 -- offset.rs, `offset_rings`, its first loop: the rings of a shape are loaded into the front, edge by edge. Assumes nothing.
-use Prim.Native.Nat.{ℕ, _+_, _-_}
+use Prim.Native.Nat.{ℕ, suc, _+_, _-_}
 use mathlib.Core.Bool.{Bool, true, cond}
+use mathlib.Core.Path.{_≡_}
 use mathlib.Core.List.{List}
 use lib.Dec.{ltb, eqb}
 use lib.ListN.{set, replicate}
@@ -16,6 +17,7 @@ use Rattle.front.specs.declared.Through.the-variants.{NoLine, Along}
 use Rattle.front.specs.Edges.{unused}
 use Rattle.plane.specs.Plane.{sub}
 use Rattle.ring.specs.Ring.{vertex-at, following}
+use Rattle.polygon.specs.Outlines.{proper}
 use Rattle.math.specs.Number.{zero-float}
 use Rattle.front.specs.Lines.{through}
 use Rattle.error.specs.Refusals.{granted}
@@ -60,6 +62,14 @@ load-step ps n back origin d first k s =
 -- one ring of n vertices, into the slots after those in use
 unfoldable pub load-ring : List Float → ℕ → Bool → PlanarPoint → Float → Loaded → Loaded
 load-ring ps n back origin d s = rounds (load-step ps n back origin d (s .used)) n s
+
+-- ---- the fronts that loading makes
+
+-- The loaded front of a shape that passes question 21, granted or refused: n edges in r rings, the outer one too, both as handed in. The outer ring comes first, forwards, or
+-- backwards for an outset, and its first vertex is the origin; each hole is walked backwards.
+pub data Loads (d : Float) : PlanarPoint → ℕ → ℕ → Loaded → Type 0 where
+  outer : (ps : List Float) (n : ℕ) (back : Bool) → proper 128 ps n ≡ true → Loads d (vertex-at ps 0) n 1 (load-ring ps n back (vertex-at ps 0) d loaded-nothing)
+  hole : {origin : PlanarPoint} {n r : ℕ} {l : Loaded} (ps : List Float) (c : ℕ) → proper 32 ps c ≡ true → Loads d origin n r l → Loads d origin (n + c) (suc r) (load-ring ps c true origin d l)
 
 -- opens every definition above, for a proof that computes with all of them
 unfoldable pub open-loading : Unit {0}
