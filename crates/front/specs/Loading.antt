@@ -28,10 +28,10 @@ unfoldable pub no-front : List Edge
 no-front = replicate 128 unused
 
 unfoldable pub loaded-nothing : Loaded
-loaded-nothing = record { edges = no-front; used = 0; refusal = Granted }
+loaded-nothing = record { edges = no-front; used = 0; rings = 0; refusal = Granted }
 
 unfoldable pub load-refused : Loaded → Refusal → Loaded
-load-refused s r = record { edges = s .edges; used = s .used; refusal = r }
+load-refused s r = record { edges = s .edges; used = s .used; rings = s .rings; refusal = r }
 
 -- the closure `at`: vertex k of a ring that is walked forwards or backwards, relative to the origin, which is the first vertex of the shape
 unfoldable pub load-vertex : List Float → ℕ → Bool → PlanarPoint → ℕ → PlanarPoint
@@ -47,7 +47,7 @@ unfoldable pub load-line : Float → ℕ → ℕ → ℕ → PlanarPoint → Loa
 load-line d first n k a s NoLine = load-refused s (Collapses d)
 load-line d first n k a s (Along l) =
     cond (ltb (s .used) 128)
-    (record { edges = set (s .edges) (s .used) (loaded-edge l first n k a); used = s .used + 1; refusal = Granted })
+    (record { edges = set (s .edges) (s .used) (loaded-edge l first n k a); used = s .used + 1; rings = s .rings; refusal = Granted })
     (load-refused s (Slots (s .used + (n - k))))
 
 unfoldable pub load-edge : Float → ℕ → ℕ → ℕ → PlanarPoint → PlanarPoint → Loaded → Loaded
@@ -59,9 +59,13 @@ load-step ps n back origin d first k s =
     (load-edge d first n k (load-vertex ps n back origin k) (load-vertex ps n back origin (following n k)) s)
     s
 
+-- one ring more is begun
+unfoldable pub ring-begun : Loaded → Loaded
+ring-begun s = record { edges = s .edges; used = s .used; rings = s .rings + 1; refusal = s .refusal }
+
 -- one ring of n vertices, into the slots after those in use
 unfoldable pub load-ring : List Float → ℕ → Bool → PlanarPoint → Float → Loaded → Loaded
-load-ring ps n back origin d s = rounds (load-step ps n back origin d (s .used)) n s
+load-ring ps n back origin d s = rounds (load-step ps n back origin d (s .used)) n (ring-begun s)
 
 -- ---- the fronts that loading makes
 
@@ -73,5 +77,5 @@ pub data Loads (d : Float) : PlanarPoint → ℕ → ℕ → Loaded → Type 0 w
 
 -- opens every definition above, for a proof that computes with all of them
 unfoldable pub open-loading : Unit {0}
-unfolding no-front loaded-nothing load-refused load-vertex loaded-edge load-line load-edge load-step load-ring
+unfolding no-front loaded-nothing load-refused load-vertex loaded-edge load-line load-edge load-step ring-begun load-ring
 open-loading = tt

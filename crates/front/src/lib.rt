@@ -138,10 +138,11 @@ pub struct Front {
     pub changed: bool,
 }
 
-// The front while the rings load: the slots taken so far.
+// The front while the rings load: the slots taken and the rings begun so far.
 pub struct Loaded {
     pub edges: [Edge; 128],
     pub used: usize,
+    pub rings: usize,
     pub refusal: Refusal,
 }
 

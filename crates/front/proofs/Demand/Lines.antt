@@ -1,6 +1,6 @@
--- Lines are only ever copied: what holds of every line of a front of 128 edges holds after each step.
+-- Lines are only ever copied: what holds of the line of every live edge of a front of 128 edges holds after each step.
 use mathlib.Core.Path.{_≡_, sym, _∙_, subst}
-use mathlib.Core.Bool.{Bool, true, false, cond, not, _&&_}
+use mathlib.Core.Bool.{Bool, true, false, cond, not, _&&_, false≢true}
 use mathlib.Core.List.{List}
 use Prim.Native.Nat.{ℕ, _<_}
 use native.Mathlib.Omega.{arith}
@@ -25,21 +25,25 @@ use Rattle.front.proofs.Demand.Views.{edge-here, edge-there, set-length
 use Rattle.loops.proofs.Laws.{rounds-keep}
 
 module _ (P : Line → Type 0) where
+  -- an edge is dead, or has such a line
+  abbrev pub Fair : Edge → Type 0
+  Fair e = e .alive ≡ true → P (e .line)
+
   pub record Lined (f : List Edge) : Type 0 where
-    pub lines : (i : ℕ) → P ((edge f i) .line)
+    pub lines : (i : ℕ) → Fair (edge f i)
     pub size : length f ≡ 128
 
-  pub put : (f : List Edge) (s : ℕ) (e : Edge) → P (e .line) → Lined f → Lined (set f s e)
+  pub put : (f : List Edge) (s : ℕ) (e : Edge) → Fair e → Lined f → Lined (set f s e)
   put f s e p l = record {
     lines = λ i. by-cases i s
-        (λ q. subst (λ (k : ℕ). P ((edge (set f s e) k) .line)) (sym q) (inside (decLt s 128)))
-        (λ d. subst (λ (x : Edge). P (x .line)) (sym (edge-there f s i e d)) (l .lines i));
+        (λ q. subst (λ (k : ℕ). Fair (edge (set f s e) k)) (sym q) (inside (decLt s 128)))
+        (λ d. subst Fair (sym (edge-there f s i e d)) (l .lines i));
     size = set-length f s e (l .size);
   }
     where
-      inside : Dec (s < 128) → P ((edge (set f s e) s) .line)
-      inside (yes h) = subst (λ (x : Edge). P (x .line)) (sym (edge-here f s e (l .size) h)) p
-      inside (no h) = subst (λ (x : Edge). P (x .line)) (edge-out f s (omega arith) ∙ sym (edge-out (set f s e) s (omega arith))) (l .lines s)
+      inside : Dec (s < 128) → Fair (edge (set f s e) s)
+      inside (yes h) = subst Fair (sym (edge-here f s e (l .size) h)) p
+      inside (no h) = subst Fair (edge-out f s (omega arith) ∙ sym (edge-out (set f s e) s (omega arith))) (l .lines s)
 
   next-lined : (f : List Edge) (s v : ℕ) → Lined f → Lined (set-next f s v)
   unfolding set-next with-next
@@ -55,7 +59,7 @@ module _ (P : Line → Type 0) where
 
   kill-lined : (f : List Edge) (s : ℕ) → Lined f → Lined (kill f s)
   unfolding kill dead
-  kill-lined f s l = put f s (dead (edge f s)) (l .lines s) l
+  kill-lined f s l = put f s (dead (edge f s)) (λ q. absurd (false≢true q)) l
 
   remove-lined : (f : List Edge) (x : ℕ) → Lined f → Lined (remove f x)
   unfolding remove unlinked
@@ -138,9 +142,10 @@ module _ (P : Line → Type 0) where
 
   -- ---- a split
 
-  pub split-lined : (f : List Edge) (v e s : ℕ) (p : PlanarPoint) (t : Float) → Lined f → Lined (split-linked f v e s ((edge f v) .previous) (edge f e) p t)
+  pub split-lined : (f : List Edge) (v e s : ℕ) (p : PlanarPoint) (t : Float) → (edge f e) .alive ≡ true → Lined f
+      → Lined (split-linked f v e s ((edge f v) .previous) (edge f e) p t)
   unfolding split-linked cut copy-of
-  split-lined f v e s p t l =
+  split-lined f v e s p t a l =
       let before : ℕ = (edge f v) .previous in
       let after : ℕ = (edge f e) .next in
       let copy : Edge = copy-of (edge f e) before p t in
@@ -149,4 +154,4 @@ module _ (P : Line → Type 0) where
       let f₂ : List Edge = set-previous f₁ after s in
       let f₃ : List Edge = set-next f₂ e v in
       let f₄ : List Edge = set-previous f₃ v e in
-      start-lined f₄ v p t (previous-lined f₃ v e (next-lined f₂ e v (previous-lined f₁ after s (next-lined f₀ before s (put f s copy (l .lines e) l)))))
+      start-lined f₄ v p t (previous-lined f₃ v e (next-lined f₂ e v (previous-lined f₁ after s (next-lined f₀ before s (put f s copy (λ q. l .lines e a) l)))))
