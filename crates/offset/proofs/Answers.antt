@@ -33,7 +33,8 @@ use Rattle.polygon.specs.Outlines.{proper, no-outline, stored-outline, outline-
 use Rattle.front.specs.Loading.{loaded-nothing}
 use Rattle.front.specs.Sweeps.{sweep-from, offset-rings}
 use Rattle.front.specs.Demand.{Demand}
-use Rattle.front.proofs.Demand.Loading.{load-other, none-other}
+use Rattle.front.specs.Loading.{outer}
+use Rattle.front.proofs.Demand.Whole.{loads-other}
 use Rattle.front.proofs.Demand.Small.{down-pos}
 use Rattle.front.proofs.Demand.Shapes.{Proper, proper-is, and-left}
 use Rattle.offset.specs.Offsets.{max-distance, check-distance, pieces-refused, expected, with-piece, visit-piece, pieces-refusal, pieces, keeps-clear, offset-clear, offset-found, offset-finished, offset-swept, offset-counted, offset-plain, outline-load, sweep, offset-from, offset-by, offset}
@@ -152,7 +153,7 @@ offset-demand o outward d q =
     (let D : Demand (o .count) 1 d l = outline-demand o outward d q (distance-finite d z) in
     record {
       told = answer-demand (o .count) 1 (s .refusal) ((offset-swept o outward d s) .refusal) (s .collapses) (s .divides) (s .joins) (D .counts) (D .most) (D .unfinished)
-          (sweep-carried d l (record { no = load-other (o .points) (o .count) outward (vertex-at (o .points) 0) d loaded-nothing none-other }))
+          (sweep-carried d l (record { no = loads-other d (vertex-at (o .points) 0) (o .count) 1 l (outer (o .points) (o .count) outward q) }))
           (swept-own o outward d s .owned);
     }))
     (λ z. record { told = plain-demand (o .count) 1 (check-distance d) (omega (arith, p .three)) (distance-other d) }))
