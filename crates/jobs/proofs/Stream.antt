@@ -32,9 +32,9 @@ feeding-parts s front back = walk-append byte-taken 0 front back s
 
 -- ---- a line above the limit: one byte past it is enough
 
-pub overlong : (line : List ℕ) → leb (length line) longest-line ≡ false → parse-job line ≡ ill-formed
+pub overlong-parse : (line : List ℕ) → leb (length line) longest-line ≡ false → parse-job line ≡ ill-formed
 unfolding parse-job
-overlong line h = rw h
+overlong-parse line h = rw h
 
 -- the first n + 1 bytes tell whether a line is longer than n
 cut-parses : (n : ℕ) (A : Type 0) (f : List ℕ → A) (a : A) → ((line : List ℕ) → leb (length line) n ≡ false → f line ≡ a)
@@ -49,7 +49,7 @@ cut-parses n A f a over line = go (leb (length line) n) refl
 
 pub cut-answer : (line : List ℕ) → answer-line (take (longest-line + 1) line) ≡ answer-line line
 unfolding answer-line
-cut-answer line = ap (λ p. answer-bytes (job-parsed p)) (cut-parses longest-line ParsedJob parse-job ill-formed overlong line)
+cut-answer line = ap (λ p. answer-bytes (job-parsed p)) (cut-parses longest-line ParsedJob parse-job ill-formed overlong-parse line)
 
 -- ---- the bytes that are kept of a line are its first 16,385
 

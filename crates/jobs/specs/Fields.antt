@@ -1,9 +1,11 @@
 -- 01, "Job lines": the fields of a line, parted by commas, no quoting; and the lines of a stream, each ended by LF or the end of input. Assumes nothing.
-use Prim.Native.Nat.{ℕ, _+_, _-_}
+use Prim.Native.Nat.{ℕ, _+_, _-_, _≤_}
 use mathlib.Core.Bool.{Bool, true, false, cond}
+use mathlib.Core.Path.{_≡_}
 use mathlib.Core.List.{List, [], _∷_}
-use lib.Dec.{eqb}
-use lib.ListN.{getD, length}
+use lib.Dec.{leb, eqb}
+use lib.ListN.{getD, drop, length}
+use lib.Seq.{slice}
 use Rattle.loops.specs.Loop.{rounds}
 
 abbrev pub comma : ℕ
@@ -35,14 +37,31 @@ lines input = parts-of line-feed [] input
 
 -- ---- the same by place, for a walk along a line
 
--- Where the part from place `start` on ends: at the first mark from there on, or at the end of the bytes. The next part starts one place after a mark.
+-- Where the part from place `start` on ends: at the first mark from there on, or at the end of the bytes
 unfoldable pub end-step : ℕ → List ℕ → ℕ → ℕ → ℕ
 end-step mark bytes k at = cond (eqb (getD bytes at 0) mark) at (at + 1)
 
 unfoldable pub part-end : ℕ → List ℕ → ℕ → ℕ
 part-end mark bytes start = rounds (end-step mark bytes) (length bytes - start) start
 
+unfoldable pub field-end : List ℕ → ℕ → ℕ
+field-end line start = part-end comma line start
+
+-- the fields of a line from place `start` on; there is none past its end
+unfoldable pub fields-from : List ℕ → ℕ → List (List ℕ)
+fields-from line start = cond (leb start (length line)) (fields (drop start line)) []
+
+-- What a walk from field to field goes by. The field that starts at a place is the part of the line from there up to its end, and the next one starts one place
+-- after that.
+pub record FieldAt (line : List ℕ) (start : ℕ) : Type 0 where
+  pub from : start ≤ field-end line start
+  pub up-to : field-end line start ≤ length line
+  pub is : fields-from line start ≡ slice start (field-end line start) line ∷ fields-from line (field-end line start + 1)
+
+abbrev pub FieldWalk : Type 0
+FieldWalk = (line : List ℕ) (start : ℕ) → start ≤ length line → FieldAt line start
+
 -- opens every definition above, for a proof that computes with all of them
 unfoldable pub open-fields : Unit {0}
-unfolding byte-before parts-of fields lines end-step part-end
+unfolding byte-before parts-of fields lines end-step part-end field-end fields-from
 open-fields = tt

@@ -1,7 +1,8 @@
 -- A job on numbers: a side, a distance, the ring lengths and the coordinates. With one ring it is an outline's offset, and with more a region's inset.
 -- Question 22 of the side is asked first, then 1, 2 and 3, then 4 to 12 ring by ring, then 13 to 19 by the offset. Assumes nothing.
 use Prim.Native.Nat.{ℕ, _*_, _%_}
-use mathlib.Core.Bool.{Bool, cond, not, _&&_, _||_}
+use mathlib.Core.Bool.{Bool, false, cond, not, _&&_, _||_}
+use mathlib.Core.Path.{_≡_}
 use mathlib.Core.List.{List}
 use lib.Dec.{ltb, eqb}
 use lib.ListN.{getD, length}
@@ -17,11 +18,11 @@ use Rattle.polygon.specs.Outlines.{new-outline, check-finite}
 use Rattle.offset.specs.Offsets.{offset}
 use Rattle.region.specs.Regions.{no-region, with-outer}
 use Rattle.region.specs.Checks.{load-rings, region-loaded, total}
-use Rattle.region.specs.Insets.{offset-plain, region-inset}
+use Rattle.region.specs.Insets.{region-inset}
 
 -- a refused job: "The shape beside it is empty"
 unfoldable pub job-refused : Refusal → RegionOffset
-job-refused r = offset-plain r no-region
+job-refused r = record { refusal = r; shape = no-region; collapses = 0; divides = 0; joins = 0 }
 
 -- an outline's offset, as a region without holes
 unfoldable pub as-region : Offset → RegionOffset
@@ -77,6 +78,12 @@ unfoldable pub job : Bool → Float → List ℕ → List Float → RegionOffset
 job outward d lengths ps =
     let given = job-numbers outward d lengths ps in
     cond (side-fits outward (length lengths)) given (job-refused Job)
+
+-- ---- what is to hold
+
+-- a refused job hands back the empty shape
+abbrev pub RefusedEmpty : Type 0
+RefusedEmpty = (outward : Bool) (d : Float) (lengths : List ℕ) (ps : List Float) → granted ((job outward d lengths ps) .refusal) ≡ false → (job outward d lengths ps) .shape ≡ no-region
 
 -- opens every definition above, for a proof that computes with all of them
 unfoldable pub open-jobs : Unit {0}

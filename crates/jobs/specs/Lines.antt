@@ -1,6 +1,8 @@
 -- 01, "Job lines": a line of bytes, its LF not counted, as a job, and the answer line. Assumes nothing.
-use Prim.Native.Nat.{ℕ, _+_, _-_, _*_}
+use Prim.Native.Nat.{ℕ, _+_, _-_, _*_, _<_}
 use mathlib.Core.Bool.{Bool, true, false, cond, _&&_, _||_}
+use mathlib.Core.Logic.{_⊎_}
+use mathlib.Core.Path.{_≡_}
 use mathlib.Core.List.{List, [], _∷_, _++_}
 use lib.Dec.{leb, eqb}
 use lib.ListN.{getD, length, take}
@@ -183,6 +185,17 @@ job-parsed p =
 
 unfoldable pub answer-line : List ℕ → List ℕ
 answer-line line = answer-bytes (job-parsed (parse-job line))
+
+-- ---- what is to hold
+
+-- "so is one above 16,384 bytes"
+abbrev pub Overlong : Type 0
+Overlong = (line : List ℕ) → longest-line < length line → answer-line line ≡ no-line 22
+
+-- an answer line starts with `ok,` or with `no,`
+abbrev pub AnswerStarts : Type 0
+AnswerStarts =
+    (line : List ℕ) → ((rest : List ℕ) × (answer-line line ≡ with-field ok-word rest)) ⊎ ((rest : List ℕ) × (answer-line line ≡ with-field no-word rest))
 
 -- opens every definition above, for a proof that computes with all of them
 unfoldable pub open-lines : Unit {0}

@@ -1,8 +1,9 @@
 -- 01, "Job lines": floats are 16 lower-case hexadecimal digits of their bits, counts 1 to 3 decimal digits without a leading zero but for 0 itself.
 -- A field is the list of its bytes. The tests say whether a field is well formed, the values what it stands for, and the digits how a number is written.
 -- Assumes nothing.
-use Prim.Native.Nat.{ℕ, _+_, _-_, _*_, _/_, _%_, _^_}
+use Prim.Native.Nat.{ℕ, _+_, _-_, _*_, _/_, _%_, _^_, _<_}
 use mathlib.Core.Bool.{Bool, true, cond, not, _&&_, _||_}
+use mathlib.Core.Path.{_≡_}
 use mathlib.Core.List.{List, [], _∷_, _++_}
 use lib.Dec.{leb, ltb, eqb}
 use lib.ListN.{getD, length}
@@ -92,6 +93,14 @@ count-digits n =
     cond (ltb n 10) (decimal-digit n ∷ [])
     (cond (ltb n 100) (decimal-digit (n / 10) ∷ decimal-digit (n % 10) ∷ [])
     (decimal-digit (n / 100) ∷ decimal-digit (n / 10 % 10) ∷ decimal-digit (n % 10) ∷ []))
+
+-- ---- what is to hold: reading gives back what was written
+
+abbrev pub BitsRead : Type 0
+BitsRead = (bits : ℕ) → bits < 2 ^ 64 → (is-float (bits-digits bits) ≡ true) × (bits-of (bits-digits bits) ≡ bits)
+
+abbrev pub CountRead : Type 0
+CountRead = (n : ℕ) → n < 1000 → (is-count (count-digits n) ≡ true) × (count-of (count-digits n) ≡ n)
 
 -- opens every definition above, for a proof that computes with all of them
 unfoldable pub open-numerals : Unit {0}
