@@ -24,9 +24,9 @@ no-job : answer-bytes (job-parsed ill-formed) ≡ no-line 22
 unfolding answer-bytes job-parsed ill-formed job-refused open-refusals
 no-job = refl
 
-pub overlong : Overlong
+pub overlong-answer : Overlong
 unfolding answer-line
-overlong line h =
+overlong-answer line h =
     ap (λ p. answer-bytes (job-parsed p)) (overlong-parse line (is-false (leb (length line) longest-line) (lt→nleb (length line) longest-line h))) ∙ no-job
 
 -- ---- how an answer line starts

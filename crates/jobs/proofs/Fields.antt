@@ -5,7 +5,7 @@ use native.Mathlib.Numerals.{add-one}
 use native.Mathlib.Omega.{arith}
 use mathlib.Core.Bool.{Bool, true, false, cond, not}
 use mathlib.Core.Path.{_≡_, refl, sym, ap, _∙_, subst}
-use mathlib.Core.List.{List, [], _∷_, head-eq-of-cons-eq, tail-eq-of-cons-eq, nil≢cons}
+use mathlib.Core.List.{List, [], _∷_, _++_, head-eq-of-cons-eq, tail-eq-of-cons-eq, nil≢cons}
 use lib.Arith.{lt→nleb}
 use lib.Dec.{T, leb, ltb, eqb, leb·suc-suc, leb·zero, le→leb, leb→le, not-T}
 use lib.Ieee.Bits.{is-true, is-false}
@@ -14,6 +14,7 @@ use lib.Seq.{slice, drop-drop, getD-drop, take-nil, drop-nil}
 use Rattle.loops.specs.Loop.{rounds}
 use Rattle.loops.proofs.Laws.{steady, still}
 use Rattle.jobs.specs.Fields.{comma, byte-before, parts-of, fields, end-step, part-end, field-end, fields-from, FieldAt, FieldWalk}
+use Rattle.jobs.specs.Lines.{with-field}
 
 -- ---- the first part of a list of bytes
 
@@ -88,6 +89,7 @@ walk-is mark bytes (b ∷ rest) at e =
   where
     here : getD bytes at 0 ≡ b
     here = ap (λ (i : ℕ). getD bytes i 0) (sym (add-zero at)) ∙ sym (getD-drop at bytes 0 0) ∙ ap (λ (l : List ℕ). getD l 0 0) e
+
     next : drop (at + 1) bytes ≡ rest
     next = sym (drop-drop 1 at bytes) ∙ ap (λ (l : List ℕ). drop 1 l) e
 
@@ -174,3 +176,25 @@ fields-gone (y ∷ xs) (suc k) e = suc-le-suc (fields-gone xs k e)
 -- a walk starts at place 0, with every field before it
 pub fields-start : (line : List ℕ) → fields-from line 0 ≡ fields line
 fields-start line = from-is line 0 zero-le
+
+-- ---- a line that is written field by field has those fields
+
+pub one-field : (field : List ℕ) → ((k : ℕ) → k < length field → eqb (getD field k 0) comma ≡ false) → fields field ≡ field ∷ []
+unfolding fields parts-of byte-before
+one-field [] h = refl
+one-field (b ∷ field) h =
+    ap (λ (t : Bool). byte-before t b (fields field)) (h 0 (suc-le-suc zero-le))
+    ∙ ap (λ (parts : List (List ℕ)). byte-before false b parts) (one-field field (λ k l. h (suc k) (suc-le-suc l)))
+
+byte-and-more : (t : Bool) (b : ℕ) (part : List ℕ) (parts more : List (List ℕ)) → byte-before t b ((part ∷ parts) ++ more) ≡ byte-before t b (part ∷ parts) ++ more
+unfolding byte-before
+byte-and-more true b part parts more = refl
+byte-and-more false b part parts more = refl
+
+pub fields-with : (line field : List ℕ) → fields field ≡ field ∷ [] → fields (with-field line field) ≡ fields line ++ field ∷ []
+unfolding fields parts-of byte-before with-field
+fields-with [] field e = ap (λ (parts : List (List ℕ)). [] ∷ parts) e
+fields-with (b ∷ line) field e =
+    ap (λ (parts : List (List ℕ)). byte-before (eqb b comma) b parts) (fields-with line field e ∙ ap (λ (parts : List (List ℕ)). parts ++ field ∷ []) (first-part line))
+    ∙ byte-and-more (eqb b comma) b (take (first comma line) line) (after (first comma line) line) (field ∷ [])
+    ∙ ap (λ (parts : List (List ℕ)). byte-before (eqb b comma) b parts ++ field ∷ []) (sym (first-part line))

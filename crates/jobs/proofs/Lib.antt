@@ -1,6 +1,7 @@
 pub mod Walks
 pub mod Numerals
 pub mod Fields
+pub mod Written
 pub mod Below
 pub mod Refused
 pub mod Stream

@@ -33,7 +33,7 @@ use Rattle.jobs.specs.Fields.{open-fields}
 use Rattle.jobs.specs.Jobs.{open-jobs}
 use Rattle.jobs.specs.Lines.{open-lines}
 use Rattle.jobs.specs.Stream.{answers, open-stream}
-use Rattle.jobs.specs.Table.{Row, Rows, table, square, square-rest, bytes-of}
+use Rattle.jobs.specs.Table.{Row, TableHolds, table, square, square-rest, bytes-of}
 
 abbrev row-from : List Row → ℕ → Row
 row-from rs k = getD rs k (record { input = ""; output = "" })
@@ -52,5 +52,5 @@ all-hold : Hold table
 unfolding table square square-rest Hold bytes-of open-loop open-number open-hypot open-plane open-refusals open-ring open-simple open-contains open-near open-meet open-checks open-store open-outlines open-front-lines open-edges open-tidying open-next-event open-splitting open-loading open-sweeps open-offsets open-regions open-region-checks open-insets open-numerals open-fields open-jobs open-lines open-stream
 all-hold = (refl, (refl, (refl, (refl, (refl, (refl, (refl, (refl, (refl, (refl, (refl, (refl, (refl, (refl, (refl, (refl, tt))))))))))))))))
 
-pub rows : Rows
-rows k l = hold-at table all-hold k l
+pub table-holds : TableHolds
+table-holds k l = hold-at table all-hold k l

@@ -5,10 +5,10 @@ use mathlib.Core.Logic.{_⊎_}
 use mathlib.Core.Path.{_≡_}
 use mathlib.Core.List.{List, [], _∷_, _++_}
 use lib.Dec.{leb, eqb}
-use lib.ListN.{getD, length, take}
+use lib.ListN.{getD, length, take, drop}
 use lib.Ieee.{Float, nan}
 use Rattle.error.specs.declared.Refusal.{Refusal}
-use Rattle.error.specs.declared.Refusal.the-variants.{Granted, Job}
+use Rattle.error.specs.declared.Refusal.the-variants.{Granted, Short, Job}
 use Rattle.region.specs.declared.Region.{Region}
 use Rattle.region.specs.declared.RegionOffset.{RegionOffset}
 use Rattle.loops.specs.Loop.{rounds}
@@ -186,6 +186,14 @@ job-parsed p =
 unfoldable pub answer-line : List ℕ → List ℕ
 answer-line line = answer-bytes (job-parsed (parse-job line))
 
+-- ---- question 20 of lent bytes: is the lent output long enough? "A refused write changes nothing. A granted one changes only the numbers it writes."
+
+unfoldable pub bytes-refusal : List ℕ → List ℕ → Refusal
+bytes-refusal bytes out = cond (leb (length bytes) (length out)) Granted (Short (length bytes))
+
+unfoldable pub bytes-written : List ℕ → List ℕ → List ℕ
+bytes-written bytes out = cond (leb (length bytes) (length out)) (bytes ++ drop (length bytes) out) out
+
 -- ---- what is to hold
 
 -- "so is one above 16,384 bytes"
@@ -199,5 +207,5 @@ AnswerStarts =
 
 -- opens every definition above, for a proof that computes with all of them
 unfoldable pub open-lines : Unit {0}
-unfolding inset-word outset-word ok-word no-word same-step same-bytes counts-test-step are-counts counts-step counts-of floats-test-step are-floats floats-step floats-of ill-formed is-side coordinate-count head-formed numbers-formed well-formed job-of parsed-by parsed parse-job with-field count-field-step with-counts float-field-step with-floats ok-line no-line ring-count-step ring-counts ring-coordinates-step ring-coordinates answer-bytes job-parsed answer-line
+unfolding inset-word outset-word ok-word no-word same-step same-bytes counts-test-step are-counts counts-step counts-of floats-test-step are-floats floats-step floats-of ill-formed is-side coordinate-count head-formed numbers-formed well-formed job-of parsed-by parsed parse-job with-field count-field-step with-counts float-field-step with-floats ok-line no-line ring-count-step ring-counts ring-coordinates-step ring-coordinates answer-bytes job-parsed answer-line bytes-refusal bytes-written
 open-lines = tt

@@ -27,48 +27,48 @@ answers input = all-answered (lines input)
 -- ---- the same, a byte at a time
 
 -- `line` has the bytes since the last LF, or the first 16,385 of them, and `output` what has been written so far.
-pub record Stream : Type 0 where
+pub record StreamState : Type 0 where
   pub line : List ℕ
   pub output : List ℕ
 
-unfoldable pub stream-start : Stream
+unfoldable pub stream-start : StreamState
 stream-start = record { line = []; output = [] }
 
 -- a line above 16,384 bytes "is passed over to its LF": one byte past the limit is kept, which makes it a line above the limit
 unfoldable pub kept-byte : List ℕ → ℕ → List ℕ
 kept-byte line b = cond (ltb (length line) (longest-line + 1)) (line ++ b ∷ []) line
 
-unfoldable pub with-byte : Stream → ℕ → Stream
+unfoldable pub with-byte : StreamState → ℕ → StreamState
 with-byte s b = record { line = kept-byte (s .line) b; output = s .output }
 
-unfoldable pub with-answer : Stream → Stream
+unfoldable pub with-answer : StreamState → StreamState
 with-answer s = record { line = []; output = s .output ++ answered (s .line) }
 
-unfoldable pub byte-by : Bool → Stream → ℕ → Stream
+unfoldable pub byte-by : Bool → StreamState → ℕ → StreamState
 byte-by true s b = with-answer s
 byte-by false s b = with-byte s b
 
-unfoldable pub byte-taken : Stream → ℕ → Stream
+unfoldable pub byte-taken : StreamState → ℕ → StreamState
 byte-taken s b = byte-by (eqb b line-feed) s b
 
-unfoldable pub take-step : List ℕ → ℕ → Stream → Stream
+unfoldable pub take-step : List ℕ → ℕ → StreamState → StreamState
 take-step block k s = byte-taken s (getD block k 0)
 
 -- a block of bytes, one after the other
-unfoldable pub block-taken : Stream → List ℕ → Stream
+unfoldable pub block-taken : StreamState → List ℕ → StreamState
 block-taken s block = rounds (take-step block) (length block) s
 
 -- the end of input ends a line that has a byte
-unfoldable pub ended-by : List ℕ → Stream → Stream
+unfoldable pub ended-by : List ℕ → StreamState → StreamState
 ended-by [] s = s
 ended-by (b ∷ line) s = with-answer s
 
-unfoldable pub written : Stream → List ℕ
+unfoldable pub written : StreamState → List ℕ
 written s = (ended-by (s .line) s) .output
 
 -- ---- blocks
 
-unfoldable pub blocks-taken : Stream → List (List ℕ) → Stream
+unfoldable pub blocks-taken : StreamState → List (List ℕ) → StreamState
 blocks-taken s [] = s
 blocks-taken s (block ∷ rest) = blocks-taken (block-taken s block) rest
 
@@ -78,13 +78,21 @@ joined (block ∷ rest) = block ++ joined rest
 
 -- ---- what is to hold
 
+-- the machine with `output` written before what it has written
+unfoldable pub after-output : List ℕ → StreamState → StreamState
+after-output output s = record { line = s .line; output = output ++ s .output }
+
 -- the machine, fed a whole input and ended, has written its answers
 abbrev pub MachineAnswers : Type 0
 MachineAnswers = (input : List ℕ) → written (block-taken stream-start input) ≡ answers input
 
 -- to feed a concatenation is to feed one part after the other
 abbrev pub FeedingParts : Type 0
-FeedingParts = (s : Stream) (front back : List ℕ) → block-taken s (front ++ back) ≡ block-taken (block-taken s front) back
+FeedingParts = (s : StreamState) (front back : List ℕ) → block-taken s (front ++ back) ≡ block-taken (block-taken s front) back
+
+-- what was written before does not matter: a call that starts with no output writes what is added to it
+abbrev pub OutputAdded : Type 0
+OutputAdded = (line output block : List ℕ) → block-taken (record { line = line; output = output }) block ≡ after-output output (block-taken (record { line = line; output = [] }) block)
 
 -- wherever the input is cut into blocks, the answers are those of the whole
 abbrev pub AnyBlocks : Type 0
@@ -92,5 +100,5 @@ AnyBlocks = (blocks : List (List ℕ)) → written (blocks-taken stream-start bl
 
 -- opens every definition above, for a proof that computes with all of them
 unfoldable pub open-stream : Unit {0}
-unfolding answered all-answered answers stream-start kept-byte with-byte with-answer byte-by byte-taken take-step block-taken ended-by written blocks-taken joined
+unfolding answered all-answered answers stream-start kept-byte with-byte with-answer byte-by byte-taken take-step block-taken ended-by written blocks-taken joined after-output
 open-stream = tt

@@ -1,4 +1,4 @@
--- Inputs and what the program writes for them, in one table. `Rows` is the theorem over its rows, proved in `proofs/Table.antt`. Assumes nothing.
+-- Inputs and what the program writes for them, in one table. `TableHolds` is the theorem over its rows, proved in `proofs/Table.antt`. Assumes nothing.
 use Prim.Native.Nat.{ℕ, _<_}
 use Prim.Native.Char.{code}
 use Prim.Native.String.{String, _++_, [] as no-text, _∷_ as _then_}
@@ -27,7 +27,7 @@ unfoldable pub table : List Row
 table =
     -- 01's sample
     record {
-      input = "inset,3ff0000000000000,1,4" ++ square ++ "\n";
+      input = "inset,3ff0000000000000,1,4,0000000000000000,0000000000000000,4010000000000000,0000000000000000,4010000000000000,4010000000000000,0000000000000000,4010000000000000\n";
       output = "ok,1,4,3ff0000000000000,3ff0000000000000,4008000000000000,3ff0000000000000,4008000000000000,4008000000000000,3ff0000000000000,4008000000000000\n";
     } ∷
     -- E10, ended by the end of input
@@ -67,11 +67,12 @@ table =
       output = "no,22\nno,22\nno,22\n";
     } ∷
     -- 22, the bytes CR, space, NUL and 233
-    record { input = "inset,3ff0000000000000,0\r\ninset,3ff0000000000000,0 \ninset,3ff0000000000000,0\0\n\u{e9}nset,3ff0000000000000,0"; output = "no,22\nno,22\nno,22\nno,22\n" } ∷
+    record { input = "inset,3ff0000000000000,0\r\ninset,3ff0000000000000,0 \ninset,3ff0000000000000,0\0\nénset,3ff0000000000000,0"; output = "no,22\nno,22\nno,22\nno,22\n" } ∷
     []
 
 abbrev pub row-at : ℕ → Row
 row-at k = getD table k (record { input = ""; output = "" })
 
-abbrev pub Rows : Type 0
-Rows = (k : ℕ) → k < length table → answers (bytes-of ((row-at k) .input)) ≡ bytes-of ((row-at k) .output)
+-- for every row's input the program writes the row's output
+abbrev pub TableHolds : Type 0
+TableHolds = (k : ℕ) → k < length table → answers (bytes-of ((row-at k) .input)) ≡ bytes-of ((row-at k) .output)
