@@ -6,7 +6,7 @@ use mathlib.Core.Path.{_≡_, refl, sym, ap, _∙_}
 use mathlib.Core.List.{List, _∷_, _++_, append-assoc}
 use lib.Arith.{lt→nleb}
 use lib.Dec.{leb}
-use lib.Ieee.{Float}
+use lib.Ieee.{Float, nan}
 use lib.Ieee.Bits.{is-false}
 use lib.ListN.{length}
 use Rattle.region.specs.declared.RegionOffset.{RegionOffset}
@@ -14,8 +14,9 @@ use Rattle.loops.proofs.Laws.{rounds-keep}
 use Rattle.error.specs.Refusals.{granted, number, open-refusals}
 use Rattle.jobs.specs.Fields.{comma}
 use Rattle.jobs.specs.Jobs.{job-refused}
-use Rattle.jobs.specs.Numerals.{count-digits}
+use Rattle.jobs.specs.Numerals.{count-digits, float-digits}
 use Rattle.jobs.specs.Lines.{longest-line, ill-formed, parse-job, with-field, count-field-step, with-counts, float-field-step, with-floats, ok-word, no-word, ok-line, no-line, ring-counts, ring-coordinates, answer-bytes, job-parsed, answer-line, Overlong, AnswerStarts}
+use Rattle.jobs.proofs.Walks.{walk-append}
 use Rattle.jobs.proofs.Stream.{overlong-parse}
 
 -- ---- a line above the limit
@@ -71,3 +72,13 @@ bytes-start r =
 pub answer-starts : AnswerStarts
 unfolding answer-line
 answer-starts line = bytes-start (job-parsed (parse-job line))
+
+-- ---- numbers written one list after the other
+
+pub counts-parts : (front back line : List ℕ) → with-counts (front ++ back) line ≡ with-counts back (with-counts front line)
+unfolding with-counts count-field-step
+counts-parts front back line = walk-append (λ l n. with-field l (count-digits n)) 0 front back line
+
+pub floats-parts : (front back : List Float) (line : List ℕ) → with-floats (front ++ back) line ≡ with-floats back (with-floats front line)
+unfolding with-floats float-field-step
+floats-parts front back line = walk-append (λ l x. with-field l (float-digits x)) nan front back line

@@ -109,7 +109,10 @@ unfoldable pub numbers-formed : List (List ℕ) → ℕ → Bool
 numbers-formed fs r = are-counts fs 3 r && are-floats fs (3 + r) (coordinate-count fs r)
 
 unfoldable pub well-formed : List (List ℕ) → Bool → ℕ → Bool
-well-formed fs outward r = head-formed fs && (side-fits outward r && numbers-formed fs r)
+well-formed fs outward r =
+    let numbers = numbers-formed fs r in
+    let rest = side-fits outward r && numbers in
+    head-formed fs && rest
 
 unfoldable pub job-of : List (List ℕ) → Bool → ℕ → ParsedJob
 job-of fs outward r =

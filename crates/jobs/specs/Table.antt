@@ -54,10 +54,10 @@ table =
     record { input = "outset,3ff0000000000000,0\noutset,3ff0000000000000,2,4,4" ++ square ++ square; output = "no,22\nno,22\n" } ∷
     -- 22, the distance: missing, 15 digits, 17 digits, upper case
     record { input = "inset\ninset,3ff000000000000,0\ninset,3ff00000000000000,0\ninset,3FF0000000000000,0"; output = "no,22\nno,22\nno,22\nno,22\n" } ∷
-    -- 22, the ring count: missing, empty, a leading zero, 4 digits
+    -- 22, the ring count: missing, empty, a leading zero, 4 digits and more
     record {
-      input = "inset,3ff0000000000000\ninset,3ff0000000000000,\ninset,3ff0000000000000,00\ninset,3ff0000000000000,01,4\ninset,3ff0000000000000,1000";
-      output = "no,22\nno,22\nno,22\nno,22\nno,22\n";
+      input = "inset,3ff0000000000000\ninset,3ff0000000000000,\ninset,3ff0000000000000,00\ninset,3ff0000000000000,01,4\ninset,3ff0000000000000,1000\ninset,3ff0000000000000,18446744073709551617,4";
+      output = "no,22\nno,22\nno,22\nno,22\nno,22\nno,22\n";
     } ∷
     -- 22, fewer vertex counts than rings, and a vertex count that is none
     record { input = "inset,3ff0000000000000,2,4\ninset,3ff0000000000000,2,4" ++ square ++ "\ninset,3ff0000000000000,1,0x4" ++ square; output = "no,22\nno,22\nno,22\n" } ∷
