@@ -6,7 +6,7 @@ use mathlib.Core.List.{List, [], _∷_}
 use lib.ListN.{length}
 use Rattle.loops.specs.Loop.{open-loop}
 use Rattle.math.specs.Number.{open-number}
-use Rattle.math.specs.Hypot.{open-hypot}
+use Rattle.hypotenuse.specs.Hypot.{open-hypot}
 use Rattle.plane.specs.Plane.{open-plane}
 use Rattle.plane.specs.Points.{open-points}
 use Rattle.segment.specs.Segments.{open-segments}

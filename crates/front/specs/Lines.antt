@@ -10,7 +10,7 @@ use Rattle.front.specs.declared.Place.the-variants.{Nowhere, There}
 use Rattle.math.specs.Number
 use Rattle.plane.specs.Plane.{dot, sub, cross}
 use Rattle.math.specs.Number.{div, zero-float, add, one, mul, abs}
-use Rattle.math.specs.Hypot.{hypot}
+use Rattle.hypotenuse.specs.Hypot.{hypot}
 use Rattle.front.specs.Thresholds.{opposite, parallel}
 
 -- `Line::u` and `Line::n` as vectors: the direction, and the normal to its left

@@ -28,7 +28,7 @@ use Rattle.offset.specs.declared.Offset.{Offset}
 use Rattle.math.specs.Number
 use Rattle.math.specs.Number.{finite, zero-float}
 use Rattle.error.specs.Refusals.{number, values, granted}
-use Rattle.plane.specs.Plane.{segments-meet}
+use Rattle.segment.specs.Segments.{segments-meet}
 use Rattle.ring.specs.Ring.{vertex-at, edge-end, signed-area, extent, stored-at}
 use Rattle.ring.specs.Store.{stored}
 use Rattle.ringcheck.specs.Checks.{check-ring}

@@ -10,7 +10,7 @@ use Rattle.error.specs.declared.Refusal.{Refusal}
 use Rattle.error.specs.declared.Refusal.the-variants.{Splits, Slots}
 use Rattle.front.specs.declared.Edge.{Edge}
 use Rattle.front.specs.declared.Event.{Event}
-use Rattle.front.specs.declared.Event.the-variants.{Lost, Never, Collapse, Split}
+use Rattle.front.specs.declared.Event.the-variants.{Stalled, Never, Collapse, Split}
 use Rattle.front.specs.declared.Front.{Front}
 use Rattle.front.specs.declared.Loaded.{Loaded}
 use Rattle.front.specs.declared.Sweep.{Sweep}
@@ -48,12 +48,12 @@ module _ (d : Float) (s : Sweep) where
 
   event-other : (f : List Edge) (e : Event) → OtherSweep (sweep-event d s f e)
   unfolding sweep-event sweep-ended swept-collapse split
-  event-other f Lost = refused-other (Splits d) (splits-other d)
+  event-other f Stalled = refused-other (Splits d) (splits-other d)
   event-other f Never = record { other = granted-other }
   event-other f (Collapse k step) =
       let t : Float = add (s .travelled) step in
       both OtherSweep (le d t) (record { other = granted-other })
-      (both OtherSweep ((collapse f k t) .lost) (refused-other (Splits d) (splits-other d)) (record { other = granted-other }))
+      (both OtherSweep ((collapse f k t) .stalled) (refused-other (Splits d) (splits-other d)) (record { other = granted-other }))
   event-other f (Split at by step) =
       let t : Float = add (s .travelled) step in
       both OtherSweep (le d t) (record { other = granted-other }) (split-other f at by t (vertex f at t))
@@ -63,7 +63,7 @@ module _ (d : Float) (s : Sweep) where
   step-other k h =
       let f : Front = tidy (s .edges) (s .travelled) in
       both OtherSweep (granted (s .refusal) && not (s .ended))
-      (both OtherSweep (f .lost) (refused-other (Splits d) (splits-other d)) (event-other (f .edges) (next-event (f .edges) (s .travelled)))) h
+      (both OtherSweep (f .stalled) (refused-other (Splits d) (splits-other d)) (event-other (f .edges) (next-event (f .edges) (s .travelled)))) h
 
 record CarriedSweep (s : Sweep) : Type 0 where
   carries : Carried (s .refusal)

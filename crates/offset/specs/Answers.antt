@@ -14,7 +14,7 @@ use Rattle.polygon.specs.declared.Outline.{Outline}
 use Rattle.math.specs.Number
 use Rattle.math.specs.Number.{zero-float, one, add, mul}
 use Rattle.error.specs.Refusals.{number, values, granted}
-use Rattle.plane.specs.Plane.{segments-meet}
+use Rattle.segment.specs.Segments.{segments-meet}
 use Rattle.ring.specs.Ring.{vertex-at, edge-end, extent}
 use Rattle.ringcheck.specs.Simple.{check-simple}
 use Rattle.locate.specs.Contains.{ring-contains}

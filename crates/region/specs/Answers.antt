@@ -15,7 +15,7 @@ use Rattle.region.specs.declared.NewRegion.{NewRegion}
 use Rattle.math.specs.Number
 use Rattle.math.specs.Number.{zero-float, one, add, mul}
 use Rattle.error.specs.Refusals.{granted}
-use Rattle.plane.specs.Plane.{segments-meet}
+use Rattle.segment.specs.Segments.{segments-meet}
 use Rattle.ring.specs.Ring.{vertex-at, edge-end}
 use Rattle.ringcheck.specs.Simple.{check-simple}
 use Rattle.polygon.specs.Outlines.{relative-tolerance}

@@ -16,7 +16,7 @@ use Rattle.front.specs.declared.Through.{Through}
 use Rattle.front.specs.declared.Through.the-variants.{NoLine, Along}
 use Rattle.math.specs.Number.{div, zero-float, abs}
 use Rattle.ringcheck.specs.Checks.{max-coordinate}
-use Rattle.math.specs.Hypot.{hypot}
+use Rattle.hypotenuse.specs.Hypot.{hypot}
 use Rattle.plane.specs.Plane.{sub}
 use Rattle.ring.specs.Ring.{vertex-at, following}
 use Rattle.ring.proofs.Vertices.{following-lt}
