@@ -55,6 +55,10 @@ unfolding fields parts-of first
 first-part [] = refl
 first-part (b ∷ bytes) = byte-then (eqb b comma) b bytes (first comma bytes) (first-part bytes)
 
+-- a line has a first field
+pub some-field : (line : List ℕ) → (part : List ℕ) × (parts : List (List ℕ)) × (fields line ≡ part ∷ parts)
+some-field line = (take (first comma line) line, after (first comma line) line, first-part line)
+
 -- ---- the walk to the next mark
 
 same-round : (mark : ℕ) (bytes : List ℕ) (k m at : ℕ) → end-step mark bytes k at ≡ end-step mark bytes m at
