@@ -2,7 +2,6 @@
 use mathlib.Core.Bool.{Bool, true, false, cond, not, _&&_, true≢false}
 use mathlib.Core.Path.{_≡_, refl}
 use lib.Ieee.{Float, eq}
-use Rattle.error.specs.declared.Refusal.{Refusal}
 use Rattle.error.specs.declared.Refusal.the-variants.{Granted, Splits, Collapses, Shape}
 use Rattle.polygon.specs.declared.Outline.{Outline}
 use Rattle.front.specs.declared.Sweep.{Sweep}

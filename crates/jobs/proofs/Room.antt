@@ -1,6 +1,6 @@
 -- What a well-formed line has room for: the fields of a line and its commas are all of its bytes. Assumes nothing.
 use Prim.Native.Nat.{ℕ, zero, suc, _+_, _-_, _*_, _≤_, _<_, zero-le, suc-le-suc}
-use native.Mathlib.Nat.{le-refl, le-trans, le-of-eq, zero-add, suc-add, add-zero, add-suc, mul-zero, mul-one, mul-suc, lt-of-not-le}
+use native.Mathlib.Nat.{le-trans, le-of-eq, zero-add, suc-add, add-zero, add-suc, mul-zero, mul-one, mul-suc, lt-of-not-le}
 use native.Mathlib.Omega.{arith}
 use mathlib.Core.Bool.{Bool, true, false, cond, _&&_, _||_, false≢true}
 use mathlib.Core.Path.{_≡_, refl, sym, ap, _∙_, subst}

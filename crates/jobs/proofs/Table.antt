@@ -4,35 +4,8 @@ use native.Mathlib.Nat.{le-of-suc-le-suc, not-suc-le-zero}
 use mathlib.Core.Path.{_≡_, refl}
 use mathlib.Core.List.{List, [], _∷_}
 use lib.ListN.{getD, length}
-use Rattle.loops.specs.Loop.{open-loop}
-use Rattle.math.specs.Number.{open-number}
-use Rattle.math.specs.Hypot.{open-hypot}
-use Rattle.plane.specs.Plane.{open-plane}
-use Rattle.error.specs.Refusals.{open-refusals}
-use Rattle.ring.specs.Ring.{open-ring}
-use Rattle.ringcheck.specs.Simple.{open-simple}
-use Rattle.locate.specs.Contains.{open-contains}
-use Rattle.locate.specs.Near.{open-near}
-use Rattle.locate.specs.Meet.{open-meet}
-use Rattle.ringcheck.specs.Checks.{open-checks}
-use Rattle.ring.specs.Store.{open-store}
-use Rattle.polygon.specs.Outlines.{open-outlines}
-use Rattle.front.specs.Lines.{open-lines as open-front-lines}
-use Rattle.front.specs.Edges.{open-edges}
-use Rattle.front.specs.Tidying.{open-tidying}
-use Rattle.front.specs.NextEvent.{open-next-event}
-use Rattle.front.specs.Splitting.{open-splitting}
-use Rattle.front.specs.Loading.{open-loading}
-use Rattle.front.specs.Sweeps.{open-sweeps}
-use Rattle.offset.specs.Offsets.{open-offsets}
-use Rattle.region.specs.Regions.{open-regions}
-use Rattle.region.specs.Checks.{open-checks as open-region-checks}
-use Rattle.region.specs.Insets.{open-insets}
-use Rattle.jobs.specs.Numerals.{open-numerals}
-use Rattle.jobs.specs.Fields.{open-fields}
-use Rattle.jobs.specs.Jobs.{open-jobs}
-use Rattle.jobs.specs.Lines.{open-lines}
-use Rattle.jobs.specs.Stream.{answers, open-stream}
+use Rattle.jobs.specs.Stream.{answers}
+use Rattle.jobs.specs.Opened.{open-answers}
 use Rattle.jobs.specs.Table.{Row, TableHolds, table, square, square-rest, bytes-of}
 
 abbrev row-from : List Row → ℕ → Row
@@ -49,7 +22,7 @@ hold-at (r ∷ rs) h zero l = h .0
 hold-at (r ∷ rs) h (suc k) l = hold-at rs (h .1) k (le-of-suc-le-suc l)
 
 all-hold : Hold table
-unfolding table square square-rest Hold bytes-of open-loop open-number open-hypot open-plane open-refusals open-ring open-simple open-contains open-near open-meet open-checks open-store open-outlines open-front-lines open-edges open-tidying open-next-event open-splitting open-loading open-sweeps open-offsets open-regions open-region-checks open-insets open-numerals open-fields open-jobs open-lines open-stream
+unfolding table square square-rest Hold bytes-of open-answers
 all-hold = (refl, (refl, (refl, (refl, (refl, (refl, (refl, (refl, (refl, (refl, (refl, (refl, (refl, (refl, (refl, (refl, tt))))))))))))))))
 
 pub table-holds : TableHolds
