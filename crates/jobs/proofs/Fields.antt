@@ -1,15 +1,14 @@
 -- A walk from field to field of a line meets the fields that the line has. Assumes nothing.
 use Prim.Native.Nat.{ℕ, zero, suc, _+_, _-_, _≤_, _<_, zero-le, suc-le-suc}
-use native.Mathlib.Nat.{le-refl, le-add-right, add-zero, add-suc, suc-add, zero-add, le-of-suc-le-suc, not-suc-le-zero}
-use native.Mathlib.Numerals.{add-one}
+use native.Mathlib.Nat.{le-refl, le-add-right, add-zero, suc-add, zero-add}
 use native.Mathlib.Omega.{arith}
-use mathlib.Core.Bool.{Bool, true, false, cond, not}
+use mathlib.Core.Bool.{Bool, true, false, cond}
 use mathlib.Core.Path.{_≡_, refl, sym, ap, _∙_, subst}
 use mathlib.Core.List.{List, [], _∷_, _++_, head-eq-of-cons-eq, tail-eq-of-cons-eq, nil≢cons}
 use lib.Arith.{lt→nleb}
 use lib.Dec.{T, leb, ltb, eqb, leb·suc-suc, leb·zero, le→leb, leb→le, not-T}
 use lib.Ieee.Bits.{is-true, is-false}
-use lib.ListN.{getD, length, take, drop, length-drop, length-take}
+use lib.ListN.{getD, length, take, drop, length-drop}
 use lib.Seq.{slice, drop-drop, getD-drop, take-nil, drop-nil}
 use Rattle.loops.specs.Loop.{rounds}
 use Rattle.loops.proofs.Laws.{steady, still}
@@ -54,6 +53,10 @@ first-part : (bytes : List ℕ) → fields bytes ≡ take (first comma bytes) by
 unfolding fields parts-of first
 first-part [] = refl
 first-part (b ∷ bytes) = byte-then (eqb b comma) b bytes (first comma bytes) (first-part bytes)
+
+-- a line has a first field
+pub some-field : (line : List ℕ) → (part : List ℕ) × (parts : List (List ℕ)) × (fields line ≡ part ∷ parts)
+some-field line = (take (first comma line) line, after (first comma line) line, first-part line)
 
 -- ---- the walk to the next mark
 

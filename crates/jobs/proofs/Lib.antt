@@ -2,6 +2,7 @@ pub mod Walks
 pub mod Numerals
 pub mod Fields
 pub mod Written
+pub mod Room
 pub mod Below
 pub mod Refused
 pub mod Stream

@@ -1,7 +1,7 @@
 -- A refused job hands back the empty shape. Assumes nothing.
 use Prim.Native.Nat.{ℕ, _%_}
-use mathlib.Core.Bool.{Bool, true, false, cond}
-use mathlib.Core.Path.{_≡_, refl, ap}
+use mathlib.Core.Bool.{Bool, cond}
+use mathlib.Core.Path.{refl, ap}
 use mathlib.Core.List.{List}
 use lib.Dec.{eqb}
 use lib.Ieee.{Float}
@@ -11,9 +11,7 @@ use Rattle.error.specs.declared.Refusal.the-variants.{Job, Lengths, Odd}
 use Rattle.polygon.specs.declared.Outline.{Outline}
 use Rattle.polygon.specs.declared.NewOutline.{NewOutline}
 use Rattle.offset.specs.declared.Offset.{Offset}
-use Rattle.region.specs.declared.Region.{Region}
 use Rattle.region.specs.declared.NewRegion.{NewRegion}
-use Rattle.region.specs.declared.RegionOffset.{RegionOffset}
 use Rattle.error.specs.Refusals.{granted}
 use Rattle.polygon.specs.Outlines.{new-outline, check-finite}
 use Rattle.offset.specs.Offsets.{offset}

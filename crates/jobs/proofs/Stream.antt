@@ -1,5 +1,5 @@
 -- The byte machine answers as the whole input is answered, wherever the input is cut into blocks. Assumes nothing.
-use Prim.Native.Nat.{ℕ, zero, suc, _+_, _≤_, _<_, min}
+use Prim.Native.Nat.{ℕ, suc, _+_, _≤_, _<_, min}
 use native.Mathlib.Nat.{le-refl, le-trans, le-of-lt}
 use native.Mathlib.Omega.{arith}
 use mathlib.Core.Bool.{Bool, true, false, cond, not}
@@ -10,7 +10,6 @@ use lib.Arith.{lt→nleb}
 use lib.Ieee.Bits.{is-false}
 use lib.ListN.{length, take, length-append, length-take}
 use lib.Seq.{take-all, length-take-le, take-append-le}
-use Rattle.loops.specs.Loop.{rounds}
 use Rattle.jobs.specs.Fields.{line-feed, lines, parts-of, byte-before}
 use Rattle.jobs.specs.Lines.{longest-line, ill-formed, ParsedJob, parse-job, job-parsed, answer-bytes, answer-line}
 use Rattle.jobs.specs.Stream.{answered, all-answered, answers, StreamState, stream-start, kept-byte, with-byte, with-answer, byte-by, byte-taken, take-step, block-taken, ended-by, written, blocks-taken, joined, after-output, MachineAnswers, FeedingParts, OutputAdded, AnyBlocks}

@@ -4,12 +4,8 @@ use native.Mathlib.Nat.{le-of-suc-le-suc, not-suc-le-zero}
 use mathlib.Core.Path.{_≡_, refl}
 use mathlib.Core.List.{List, [], _∷_}
 use lib.ListN.{getD, length}
-use Rattle.region.specs.Everything.{open-everything}
-use Rattle.jobs.specs.Numerals.{open-numerals}
-use Rattle.jobs.specs.Fields.{open-fields}
-use Rattle.jobs.specs.Jobs.{open-jobs}
-use Rattle.jobs.specs.Lines.{open-lines}
-use Rattle.jobs.specs.Stream.{answers, open-stream}
+use Rattle.jobs.specs.Stream.{answers}
+use Rattle.jobs.specs.Opened.{open-answers}
 use Rattle.jobs.specs.Table.{Row, TableHolds, table, square, square-rest, bytes-of}
 
 abbrev row-from : List Row → ℕ → Row
@@ -26,7 +22,7 @@ hold-at (r ∷ rs) h zero l = h .0
 hold-at (r ∷ rs) h (suc k) l = hold-at rs (h .1) k (le-of-suc-le-suc l)
 
 all-hold : Hold table
-unfolding table square square-rest Hold open-everything bytes-of open-numerals open-fields open-jobs open-lines open-stream
+unfolding table square square-rest Hold bytes-of open-answers
 all-hold = (refl, (refl, (refl, (refl, (refl, (refl, (refl, (refl, (refl, (refl, (refl, (refl, (refl, (refl, (refl, (refl, tt))))))))))))))))
 
 pub table-holds : TableHolds

@@ -1,5 +1,5 @@
 -- 01, "Job lines": a line of bytes, its LF not counted, as a job, and the answer line. Assumes nothing.
-use Prim.Native.Nat.{ℕ, _+_, _-_, _*_, _<_}
+use Prim.Native.Nat.{ℕ, _+_, _-_, _*_, _≤_, _<_}
 use mathlib.Core.Bool.{Bool, true, false, cond, _&&_, _||_}
 use mathlib.Core.Logic.{_⊎_}
 use mathlib.Core.Path.{_≡_}
@@ -202,6 +202,11 @@ bytes-written bytes out = cond (leb (length bytes) (length out)) (bytes ++ drop 
 -- "so is one above 16,384 bytes"
 abbrev pub Overlong : Type 0
 Overlong = (line : List ℕ) → longest-line < length line → answer-line line ≡ no-line 22
+
+-- What memory a well-formed line needs: at most 999 vertex counts, and at most 962 coordinates. Side, distance and ring count take 24 bytes at least, and each
+-- coordinate 17 with its comma.
+abbrev pub LineRoom : Type 0
+LineRoom = (line : List ℕ) → granted ((parse-job line) .refusal) ≡ true → (length ((parse-job line) .lengths) ≤ 999) × (length ((parse-job line) .coordinates) ≤ 962)
 
 -- an answer line starts with `ok,` or with `no,`
 abbrev pub AnswerStarts : Type 0
