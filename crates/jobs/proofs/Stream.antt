@@ -12,21 +12,21 @@ use lib.ListN.{length, take, length-append, length-take}
 use lib.Seq.{take-all, length-take-le, take-append-le}
 use Rattle.jobs.specs.Fields.{line-feed, lines, parts-of, byte-before}
 use Rattle.jobs.specs.Lines.{longest-line, ill-formed, ParsedJob, parse-job, job-parsed, answer-bytes, answer-line}
-use Rattle.jobs.specs.Stream.{answered, all-answered, answers, StreamState, stream-start, kept-byte, with-byte, with-answer, byte-by, byte-taken, take-step, block-taken, ended-by, written, blocks-taken, joined, after-output, MachineAnswers, FeedingParts, OutputAdded, AnyBlocks}
+use Rattle.jobs.specs.Stream.{answered, all-answered, answers, StreamState, stream-start, kept-byte, with-byte, with-answer, byte-by, byte-taken, block-step, block-taken, ended-by, written, blocks-taken, joined, after-output, MachineAnswers, FeedingParts, OutputAdded, AnyBlocks}
 use Rattle.jobs.proofs.Walks.{walk-nil, walk-cons, walk-append}
 
 -- ---- one byte, then the rest
 
 pub block-nil : (s : StreamState) → block-taken s [] ≡ s
-unfolding block-taken take-step
+unfolding block-taken block-step
 block-nil s = walk-nil byte-taken 0 s
 
 pub block-cons : (s : StreamState) (b : ℕ) (block : List ℕ) → block-taken s (b ∷ block) ≡ block-taken (byte-taken s b) block
-unfolding block-taken take-step
+unfolding block-taken block-step
 block-cons s b block = walk-cons byte-taken 0 b block s
 
 pub feeding-parts : FeedingParts
-unfolding block-taken take-step
+unfolding block-taken block-step
 feeding-parts s front back = walk-append byte-taken 0 front back s
 
 -- ---- a line above the limit: one byte past it is enough

@@ -1,5 +1,6 @@
 -- A job on numbers: a side, a distance, the ring lengths and the coordinates. With one ring it is an outline's offset, and with more a region's inset.
--- Question 22 of the side is asked first, then 1, 2 and 3, then 4 to 12 ring by ring, then 13 to 19 by the offset. Assumes nothing.
+-- Question 22 of the side is asked first, then 1, 2 and 3, then 4 to 9 ring by ring and 10 to 12, then 13 to 19 by the offset.
+-- What a `let` binds is computed only where it is read, so no offset is computed for a job that is refused before it. Assumes nothing.
 use Prim.Native.Nat.{ℕ, _*_, _%_}
 use mathlib.Core.Bool.{Bool, false, cond, not, _&&_, _||_}
 use mathlib.Core.Path.{_≡_}

@@ -87,12 +87,12 @@ count-step field k n = 10 * n + decimal-value (getD field k 0)
 unfoldable pub count-of : List ℕ → ℕ
 count-of field = rounds (count-step field) (length field) 0
 
--- the digits of a number below 1000
+-- The digits of a number below 1000, and the last three of any other. No number of an answer line is that large: there are at most 9 rings of at most 128 vertices.
 unfoldable pub count-digits : ℕ → List ℕ
 count-digits n =
     cond (ltb n 10) (decimal-digit n ∷ [])
     (cond (ltb n 100) (decimal-digit (n / 10) ∷ decimal-digit (n % 10) ∷ [])
-    (decimal-digit (n / 100) ∷ decimal-digit (n / 10 % 10) ∷ decimal-digit (n % 10) ∷ []))
+    (decimal-digit (n / 100 % 10) ∷ decimal-digit (n / 10 % 10) ∷ decimal-digit (n % 10) ∷ []))
 
 -- ---- what is to hold: reading gives back what was written
 

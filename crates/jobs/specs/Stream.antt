@@ -51,12 +51,12 @@ byte-by false s b = with-byte s b
 unfoldable pub byte-taken : StreamState → ℕ → StreamState
 byte-taken s b = byte-by (eqb b line-feed) s b
 
-unfoldable pub take-step : List ℕ → ℕ → StreamState → StreamState
-take-step block k s = byte-taken s (getD block k 0)
+unfoldable pub block-step : List ℕ → ℕ → StreamState → StreamState
+block-step block k s = byte-taken s (getD block k 0)
 
 -- a block of bytes, one after the other
 unfoldable pub block-taken : StreamState → List ℕ → StreamState
-block-taken s block = rounds (take-step block) (length block) s
+block-taken s block = rounds (block-step block) (length block) s
 
 -- the end of input ends a line that has a byte
 unfoldable pub ended-by : List ℕ → StreamState → StreamState
@@ -100,5 +100,5 @@ AnyBlocks = (blocks : List (List ℕ)) → written (blocks-taken stream-start bl
 
 -- opens every definition above, for a proof that computes with all of them
 unfoldable pub open-stream : Unit {0}
-unfolding answered all-answered answers stream-start kept-byte with-byte with-answer byte-by byte-taken take-step block-taken ended-by written blocks-taken joined after-output
+unfolding answered all-answered answers stream-start kept-byte with-byte with-answer byte-by byte-taken block-step block-taken ended-by written blocks-taken joined after-output
 open-stream = tt
