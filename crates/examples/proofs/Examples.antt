@@ -9,6 +9,7 @@ use Rattle.math.specs.Number.{open-number}
 use Rattle.math.specs.Hypot.{open-hypot}
 use Rattle.plane.specs.Plane.{open-plane}
 use Rattle.plane.specs.Points.{open-points}
+use Rattle.segment.specs.Segments.{open-segments}
 use Rattle.error.specs.Refusals.{open-refusals}
 use Rattle.ring.specs.Ring.{open-ring}
 use Rattle.ringcheck.specs.Simple.{open-simple}
@@ -44,7 +45,7 @@ hold-at (r ∷ rs) h zero l = h .0
 hold-at (r ∷ rs) h (suc k) l = hold-at rs (h .1) k (le-of-suc-le-suc l)
 
 all-hold : Hold table
-unfolding refusal-of outline-ring hole-rings region-rings new-answer placed-answer offset-answer region-answer answer no w m S table Hold open-loop open-number open-hypot open-plane open-points open-refusals open-ring open-simple open-contains open-near open-meet open-checks open-store open-outlines open-queries open-lines open-edges open-tidying open-next-event open-splitting open-loading open-sweeps open-offsets open-regions open-region-checks open-insets open-region-queries
+unfolding refusal-of outline-ring hole-rings region-rings new-answer placed-answer offset-answer region-answer answer no w m S table Hold open-loop open-number open-hypot open-plane open-points open-segments open-refusals open-ring open-simple open-contains open-near open-meet open-checks open-store open-outlines open-queries open-lines open-edges open-tidying open-next-event open-splitting open-loading open-sweeps open-offsets open-regions open-region-checks open-insets open-region-queries
 all-hold = (refl, (refl, (refl, (refl, (refl, (refl, (refl, (refl, (refl, (refl, (refl, (refl, (refl, (refl, (refl, (refl, (refl, (refl, (refl, (refl, (refl, (refl, (refl, tt)))))))))))))))))))))))
 
 pub examples : Examples

@@ -8,7 +8,7 @@ use Rattle.plane.specs.declared.Containment.the-variants.{Inside, OnBoundary, O
 use Rattle.plane.specs.declared.PlanarPoint.{PlanarPoint}
 use Rattle.math.specs.Number
 use Rattle.math.specs.Number.{add, mul, div}
-use Rattle.plane.specs.Plane.{turn, touches}
+use Rattle.segment.specs.Segments.{turn, touches}
 use Rattle.ring.specs.Ring.{vertex-at, edge-end}
 use Rattle.loops.specs.Loop.{rounds}
 

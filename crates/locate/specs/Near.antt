@@ -5,7 +5,8 @@ use mathlib.Core.List.{List}
 use lib.Ieee.{Float, lt}
 use Rattle.locate.specs.declared.Nearest.{Nearest}
 use Rattle.plane.specs.declared.PlanarPoint.{PlanarPoint}
-use Rattle.plane.specs.Plane.{sub, closest-on-segment}
+use Rattle.plane.specs.Plane.{sub}
+use Rattle.segment.specs.Segments.{closest-on-segment}
 use Rattle.plane.specs.Points.{length-of}
 use Rattle.ring.specs.Ring.{vertex-at, edge-end}
 use Rattle.loops.specs.Loop.{rounds}

@@ -44,7 +44,7 @@ pub fn passes(a: PlanarPoint, b: PlanarPoint, p: PlanarPoint) -> bool
 pub fn contains_edge(p: PlanarPoint, a: PlanarPoint, b: PlanarPoint, s: Containment) -> Containment
     ensures { λ r. ⌜ r ≡ Contains.contains-edge p a b s ⌝ }
 {
-    let on = plane::touches(plane::orient(a, b, p), a, b, p);
+    let on = segment::touches(segment::orient(a, b, p), a, b, p);
     choose(
         on,
         Containment::OnBoundary,

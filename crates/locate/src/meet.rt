@@ -8,7 +8,7 @@ pub fn meet_step(qs: &[f64], m: usize, a1: PlanarPoint, a2: PlanarPoint, j: usiz
 {
     let b1 = ring::vertex_at(qs, j);
     let b2 = ring::edge_end(qs, m, j);
-    s | plane::segments_meet(a1, a2, b1, b2)
+    s | segment::segments_meet(a1, a2, b1, b2)
 }
 
 pub fn meets_edge(qs: &[f64], m: usize, a1: PlanarPoint, a2: PlanarPoint) -> bool

@@ -30,7 +30,7 @@ pub fn nearest_step(ps: &[f64], n: usize, p: PlanarPoint, k: usize, best: Neares
 {
     let a = ring::vertex_at(ps, k);
     let b = ring::edge_end(ps, n, k);
-    nearer(gap_to(p, plane::closest_on_segment(p, a, b)), best)
+    nearer(gap_to(p, segment::closest_on_segment(p, a, b)), best)
 }
 
 pub fn none_yet(p: PlanarPoint) -> Nearest

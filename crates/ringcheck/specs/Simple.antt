@@ -7,7 +7,7 @@ use lib.Ieee.{Float}
 use Rattle.plane.specs.declared.PlanarPoint.{PlanarPoint}
 use Rattle.ringcheck.specs.declared.Crossing.{Crossing}
 use Rattle.ringcheck.specs.declared.Crossing.the-variants.{Simple, Edges}
-use Rattle.plane.specs.Plane.{segments-meet, folds-back}
+use Rattle.segment.specs.Segments.{segments-meet, folds-back}
 use Rattle.ring.specs.Ring.{following, stored-at}
 use Rattle.loops.specs.Loop.{rounds}
 

@@ -19,12 +19,12 @@ pub(crate) fn crossing_by(
     ensures { λ r. ⌜ r ≡ Simple.crossing-by n i j a1 a2 b1 b2 ⌝ }
 {
     if j == i + 1 {
-        return plane::folds_back(a2, a1, b2);
+        return segment::folds_back(a2, a1, b2);
     }
     if (i == 0) & (j == n - 1) {
-        return plane::folds_back(a1, a2, b1);
+        return segment::folds_back(a1, a2, b1);
     }
-    plane::segments_meet(a1, a2, b1, b2)
+    segment::segments_meet(a1, a2, b1, b2)
 }
 
 pub(crate) fn edges_cross(ps: &[f64], n: usize, back: bool, i: usize, j: usize) -> bool

@@ -1,6 +1,6 @@
 -- `locate::contain::contains_edge` meets its contract. Assumes nothing.
 use Rattle.locate.specs.Contains
-use Rattle.plane.specs.Plane
+use Rattle.segment.specs.Segments
 use borrow.Author.Needs.{needs}
 use Rattle.locate.proofs.contain.contains_edge.Statement.{statement}
 use Rattle.locate.proofs.contain.contains_edge.Tie as tie
@@ -24,7 +24,7 @@ choose-requires-2 : tie.Need-choose-requires-2
 choose-requires-2 c κs = search needs
 
 returns : tie.Need-returns
-unfolding Contains.contains-edge Plane.turn
+unfolding Contains.contains-edge Segments.turn
 returns c = cc
 
 pub contains-edge-spec : {M : Type 1} → statement M

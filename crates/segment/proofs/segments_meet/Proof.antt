@@ -1,14 +1,14 @@
--- `plane::segments_meet` meets its contract. Assumes nothing.
+-- `segment::segments_meet` meets its contract. Assumes nothing.
 use mathlib.Core.Path.{_≡_, refl, sym}
 use mathlib.Core.Bool.{Bool, true, false, _&&_, _||_, true≢false}
 use lib.Ieee.{Float, eq}
 use Rattle.math.specs.Number.{zero-float}
 use Rattle.plane.specs.declared.PlanarPoint.{PlanarPoint}
-use Rattle.plane.specs.Plane.{orient, side, turn, is-straight, apart, within-box, touches, meet-by, segments-meet}
-use Rattle.plane.proofs.Turns.{straight-is}
+use Rattle.segment.specs.Segments.{orient, side, turn, is-straight, apart, within-box, touches, meet-by, segments-meet}
+use Rattle.segment.proofs.Turns.{straight-is}
 use borrow.Author.Needs.{needs}
-use Rattle.plane.proofs.segments_meet.Statement.{statement}
-use Rattle.plane.proofs.segments_meet.Tie as tie
+use Rattle.segment.proofs.segments_meet.Statement.{statement}
+use Rattle.segment.proofs.segments_meet.Tie as tie
 
 -- where no turn is 0, no end touches
 none : (x a b c d p q r s : Bool) → (a || (b || (c || d))) ≡ false → (x || ((a && p) || ((b && q) || ((c && r) || (d && s))))) ≡ x

@@ -9,8 +9,9 @@ use lib.Dec.{ltb, eqb}
 use lib.IntN.{pos}
 use lib.Ieee.{Float, nan, inf, fin, lt, eq, up, down}
 use Rattle.math.specs.Number.{zero-float, open-number}
 use Rattle.plane.specs.declared.PlanarPoint.{PlanarPoint}
-use Rattle.plane.specs.Plane.{Turn, Left, Right, Straight, Unknown, side, is-left, is-right, is-straight, apart, touches, on-ray, within-box, cross, dot}
+use Rattle.plane.specs.Plane.{cross, dot}
+use Rattle.segment.specs.Segments.{Turn, Left, Right, Straight, Unknown, side, is-left, is-right, is-straight, apart, touches, on-ray, within-box}
 
 zero-is : zero-float ≡ fin false 0 (pos 0)
 unfolding open-number
