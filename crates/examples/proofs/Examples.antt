@@ -6,7 +6,7 @@ use mathlib.Core.List.{List, [], _∷_}
 use lib.ListN.{length}
 use Rattle.loops.specs.Loop.{open-loop}
 use Rattle.math.specs.Number.{open-number}
-use Rattle.math.specs.Hypot.{open-hypot}
+use Rattle.hypotenuse.specs.Hypot.{open-hypot}
 use Rattle.plane.specs.Plane.{open-plane}
 use Rattle.plane.specs.Points.{open-points}
 use Rattle.segment.specs.Segments.{open-segments}
@@ -27,6 +27,9 @@ use Rattle.front.specs.NextEvent.{open-next-event}
 use Rattle.front.specs.Splitting.{open-splitting}
 use Rattle.front.specs.Loading.{open-loading}
 use Rattle.front.specs.Sweeps.{open-sweeps}
+use Rattle.front.specs.Finished.{open-finished}
+use Rattle.offset.specs.Rings.{open-rings}
+use Rattle.offset.specs.Clear.{open-clear}
 use Rattle.offset.specs.Offsets.{open-offsets}
 use Rattle.region.specs.Regions.{open-regions}
 use Rattle.region.specs.Checks.{open-checks as open-region-checks}
@@ -45,7 +48,7 @@ hold-at (r ∷ rs) h zero l = h .0
 hold-at (r ∷ rs) h (suc k) l = hold-at rs (h .1) k (le-of-suc-le-suc l)
 
 all-hold : Hold table
-unfolding refusal-of outline-ring hole-rings region-rings new-answer placed-answer offset-answer region-answer answer no w m S table Hold open-loop open-number open-hypot open-plane open-points open-segments open-refusals open-ring open-simple open-contains open-near open-meet open-checks open-store open-outlines open-queries open-lines open-edges open-tidying open-next-event open-splitting open-loading open-sweeps open-offsets open-regions open-region-checks open-insets open-region-queries
+unfolding refusal-of outline-ring hole-rings region-rings new-answer placed-answer offset-answer region-answer answer no w m S table Hold open-loop open-number open-hypot open-plane open-points open-segments open-refusals open-ring open-simple open-contains open-near open-meet open-checks open-store open-outlines open-queries open-lines open-edges open-tidying open-next-event open-splitting open-loading open-sweeps open-finished open-rings open-clear open-offsets open-regions open-region-checks open-insets open-region-queries
 all-hold = (refl, (refl, (refl, (refl, (refl, (refl, (refl, (refl, (refl, (refl, (refl, (refl, (refl, (refl, (refl, (refl, (refl, (refl, (refl, (refl, (refl, (refl, (refl, tt)))))))))))))))))))))))
 
 pub examples : Examples

@@ -1,4 +1,5 @@
--- offset.rs, `Edge` and the front: a list of 128 edges, linked into rings. A link that leads out of the list reads the unused edge, and none does. Assumes nothing.
+-- offset.rs, `Edge` and `Front`: a list of 128 edges, linked into rings. A slot that was never taken holds the unused edge, which is not alive. A link that leads out of
+-- the list reads the unused edge, and none does. Assumes nothing.
 use Prim.Native.Nat.{ℕ, _+_}
 use mathlib.Core.Bool.{true, false, cond}
 use mathlib.Core.List.{List}
@@ -6,6 +7,7 @@ use lib.Dec.{ltb, eqb}
 use lib.ListN.{getD, set}
 use lib.Ieee.{Float, nan}
 use Rattle.front.specs.declared.Edge.{Edge}
+use Rattle.front.specs.declared.Line.{Line}
 use Rattle.plane.specs.declared.PlanarPoint.{PlanarPoint}
 use Rattle.front.specs.declared.Round.{Round}
 use Rattle.front.specs.declared.Place.{Place}
@@ -18,11 +20,12 @@ use Rattle.front.specs.declared.Length.the-variants.{NoLength, Long}
 use Rattle.math.specs.Number
 use Rattle.math.specs.Number.{zero-float, one, add, mul}
 use Rattle.loops.specs.Loop.{rounds}
-use Rattle.front.specs.Lines.{velocity, along}
+use Rattle.front.specs.Lines.{velocity, direction}
 use Rattle.plane.specs.Plane.{sub, dot}
 
 -- ---- edges
 
+-- `Edge::UNUSED`
 abbrev pub unused : Edge
 unused =
     record {
@@ -46,9 +49,15 @@ blank =
       since = nan;
     }
 
+-- `Front::edge`
 unfoldable pub edge : List Edge → ℕ → Edge
 edge f k = cond (ltb k 128) (getD f k blank) unused
 
+-- the line of an edge: whoever computes with it reads it here
+abbrev pub edge-line : Edge → Line
+edge-line e = e .line
+
+-- `Front::edge_mut`, one field or two at a time: the edge with another next, previous, start vertex, or dead
 unfoldable pub with-next : Edge → ℕ → Edge
 with-next e k = record { line = e .line; previous = e .previous; next = k; alive = e .alive; start = e .start; since = e .since }
 
@@ -61,7 +70,7 @@ with-start e p t = record { line = e .line; previous = e .previous; next = e .ne
 unfoldable pub dead : Edge → Edge
 dead e = record { line = e .line; previous = e .previous; next = e .next; alive = false; start = e .start; since = e .since }
 
--- stores into one edge
+-- and the front with that edge in its slot
 unfoldable pub set-next : List Edge → ℕ → ℕ → List Edge
 set-next f k n = set f k (with-next (edge f k) n)
 
@@ -74,14 +83,14 @@ set-start f k p t = set f k (with-start (edge f k) p t)
 unfoldable pub kill : List Edge → ℕ → List Edge
 kill f k = set f k (dead (edge f k))
 
--- `remove`: unlinks an edge from its ring
+-- `Front::remove`: unlinks an edge from its ring
 unfoldable pub unlinked : List Edge → ℕ → ℕ → ℕ → List Edge
 unlinked f slot before after = kill (set-previous (set-next f before after) after before) slot
 
 unfoldable pub remove : List Edge → ℕ → List Edge
 remove f slot = unlinked f slot ((edge f slot) .previous) ((edge f slot) .next)
 
--- ---- `ring_len`: the number of edges in the ring through a slot, at most 128
+-- ---- `Front::ring_len`: the number of edges in the ring through a slot, at most 128
 
 unfoldable pub round-on : ℕ → ℕ → Round → Round
 round-on slot next r =
@@ -94,7 +103,7 @@ round-step f slot k r = cond (r .closed) r (round-on slot ((edge f (r .at)) .nex
 unfoldable pub ring-len : List Edge → ℕ → ℕ
 ring-len f slot = (rounds (round-step f slot) 128 (record { at = slot; count = 0; closed = false })) .count
 
--- ---- a start vertex at offset t, and its velocity
+-- ---- `Front::vertex`: the start vertex of an edge at offset t, and its velocity
 
 unfoldable pub moved-by : PlanarPoint → PlanarPoint → Float → PlanarPoint
 moved-by p v elapsed = record { east = add (p .east) (mul elapsed (v .east)); north = add (p .north) (mul elapsed (v .north)) }
@@ -104,38 +113,41 @@ vertex-by e t Nowhere = NoVertex
 vertex-by e t (There v) = Moving (moved-by (e .start) v (Number.sub t (e .since))) v
 
 unfoldable pub vertex-of : List Edge → Edge → Float → Vertex
-vertex-of f e t = vertex-by e t (velocity ((edge f (e .previous)) .line) (e .line))
+vertex-of f e t = vertex-by e t (velocity (edge-line (edge f (e .previous))) (edge-line e))
 
 unfoldable pub vertex : List Edge → ℕ → Float → Vertex
 vertex f slot t = vertex-of f (edge f slot) t
 
--- ---- `anchor` and `collapse`
+-- ---- `Front::anchor` and `Front::collapse`
 
-unfoldable pub moved : List Edge → Front
-moved f = record { edges = f; lost = false; changed = true }
+-- the front after a step that changed it, and after one that met a vertex without a velocity: the Rust's `Some(())` and `None`
+unfoldable pub altered : List Edge → Front
+altered f = record { edges = f; stalled = false; changed = true }
 
-unfoldable pub lost : List Edge → Front
-lost f = record { edges = f; lost = true; changed = true }
+unfoldable pub stalled : List Edge → Front
+stalled f = record { edges = f; stalled = true; changed = true }
 
+-- `Front::anchor`: the start vertex of an edge is recorded as of offset t
 unfoldable pub anchor-at : List Edge → ℕ → Float → Vertex → Front
-anchor-at f slot t NoVertex = lost f
-anchor-at f slot t (Moving p v) = moved (set-start f slot p t)
+anchor-at f slot t NoVertex = stalled f
+anchor-at f slot t (Moving p v) = altered (set-start f slot p t)
 
 unfoldable pub anchor : List Edge → ℕ → Float → Front
 anchor f slot t = anchor-at f slot t (vertex f slot t)
 
--- what follows where nothing was lost
+-- an edge is removed, if the anchoring before it had its vertex
 unfoldable pub then-remove : ℕ → Front → Front
-then-remove slot s = cond (s .lost) s (moved (remove (s .edges) slot))
+then-remove slot s = cond (s .stalled) s (altered (remove (s .edges) slot))
 
+-- `Front::collapse`: an edge that shrank to nothing at t is removed; its successor starts where it vanished
 unfoldable pub collapse : List Edge → ℕ → Float → Front
 collapse f slot t = then-remove slot (anchor f ((edge f slot) .next) t)
 
--- ---- an edge's length at offset t, and its rate of change
+-- ---- `Front::length`: an edge's length at offset t, and its rate of change
 
 unfoldable pub length-to : Edge → PlanarPoint → PlanarPoint → Vertex → Length
 length-to e p v NoVertex = NoLength
-length-to e p v (Moving q w) = Long (dot (along (e .line)) (sub q p)) (dot (along (e .line)) (sub w v))
+length-to e p v (Moving q w) = Long (dot (direction (edge-line e)) (sub q p)) (dot (direction (edge-line e)) (sub w v))
 
 unfoldable pub length-from : List Edge → Edge → Float → Vertex → Length
 length-from f e t NoVertex = NoLength
@@ -146,5 +158,5 @@ edge-length f slot t = length-from f (edge f slot) t (vertex f slot t)
 
 -- opens every definition above, for a proof that computes with all of them
 unfoldable pub open-edges : Unit {0}
-unfolding edge with-next with-previous with-start dead set-next set-previous set-start kill unlinked remove round-on round-step ring-len moved-by vertex-by vertex-of vertex moved lost anchor-at anchor then-remove collapse length-to length-from edge-length
+unfolding edge with-next with-previous with-start dead set-next set-previous set-start kill unlinked remove round-on round-step ring-len moved-by vertex-by vertex-of vertex altered stalled anchor-at anchor then-remove collapse length-to length-from edge-length
 open-edges = tt

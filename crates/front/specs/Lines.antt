@@ -10,16 +10,17 @@ use Rattle.front.specs.declared.Place.the-variants.{Nowhere, There}
 use Rattle.math.specs.Number
 use Rattle.plane.specs.Plane.{dot, sub, cross}
 use Rattle.math.specs.Number.{div, zero-float, add, one, mul, abs}
-use Rattle.math.specs.Hypot.{hypot}
+use Rattle.hypotenuse.specs.Hypot.{hypot}
 use Rattle.front.specs.Thresholds.{opposite, parallel}
 
--- the edge's direction and normal, as vectors
-abbrev pub along : Line → PlanarPoint
-along l = record { east = l .u0; north = l .u1 }
+-- `Line::u` and `Line::n` as vectors: the direction, and the normal to its left
+abbrev pub direction : Line → PlanarPoint
+direction l = record { east = l .u0; north = l .u1 }
 
 abbrev pub normal : Line → PlanarPoint
 normal l = record { east = l .n0; north = l .n1 }
 
+-- `Line::through`: the line from `start` to `end`, if their distance is above 0. Its normal is the direction turned to the left, exactly.
 unfoldable pub line-along : PlanarPoint → Float → Float → Line
 line-along start u0 u1 =
     record { u0 = u0; u1 = u1; n0 = neg u1; n1 = u0; c = dot (record { east = neg u1; north = u0 }) start }
@@ -33,14 +34,15 @@ line-of start delta = line-by start delta (hypot (delta .east) (delta .north))
 unfoldable pub through : PlanarPoint → PlanarPoint → Through
 through start end = line-of start (sub end start)
 
+-- `velocity`, of the meeting point of two lines: none where they face opposite ways
 unfoldable pub velocity-by : Line → Line → Float → Place
 velocity-by a b scale =
     cond (lt scale opposite) Nowhere (There (record { east = div (add (a .n0) (b .n0)) scale; north = div (add (a .n1) (b .n1)) scale }))
 
--- the velocity of the meeting point of two lines
 unfoldable pub velocity : Line → Line → Place
 velocity a b = velocity-by a b (add one (dot (normal a) (normal b)))
 
+-- `meeting`, the meeting point of two lines at offset t: none where they are parallel
 unfoldable pub meeting-by : Line → Line → Float → Float → Float → Place
 meeting-by a b det ra rb =
     cond (lt (abs det) parallel) Nowhere
@@ -50,7 +52,6 @@ meeting-by a b det ra rb =
       north = div (Number.sub (mul (a .n0) rb) (mul ra (b .n0))) det;
     }))
 
--- the meeting point of two lines at offset t
 unfoldable pub meeting : Line → Line → Float → Place
 meeting a b t = meeting-by a b (cross (normal a) (normal b)) (add (a .c) t) (add (b .c) t)
 

@@ -1,4 +1,4 @@
--- offset.rs, `tidy`: rings too small, straight vertices, spikes and edges of no length are taken out, one after the other. Assumes nothing.
+-- offset.rs, `Front::tidy`: rings too small, straight vertices, spikes and edges of no length are taken out, one after the other. Assumes nothing.
 use Prim.Native.Nat.{ℕ}
 use mathlib.Core.Bool.{Bool, false, cond, not, _&&_, _||_}
 use mathlib.Core.List.{List}
@@ -18,28 +18,33 @@ use Rattle.front.specs.declared.Vertex.the-variants.{NoVertex, Moving}
 use Rattle.math.specs.Number.{add, mul, one, zero-float, abs, div, two}
 use Rattle.front.specs.Thresholds.{on-edge, tie, parallel, opposite}
 use Rattle.plane.specs.Plane.{dot, cross}
-use Rattle.front.specs.Edges.{edge-length, edge, ring-len, kill, anchor, then-remove, set-start, remove, moved, lost, vertex, collapse}
-use Rattle.front.specs.Lines.{along, meeting}
+use Rattle.front.specs.Edges.{edge-length, edge, edge-line, ring-len, kill, anchor, then-remove, set-start, remove, altered, stalled, vertex, collapse}
+use Rattle.front.specs.Lines.{direction, meeting}
 use Rattle.loops.specs.Loop.{rounds}
 
--- an edge of no length that does not grow; a slot whose vertex has no velocity is skipped
+-- ---- `tidy_once`, its search: the first live slot at which something is to be taken out, and what
+
+-- `Tidy::Empty`: an edge of no length that does not grow; a slot whose vertex has no velocity is skipped, and that is no error
 unfoldable pub tidy-length : ℕ → Float → Length → Tidy
 tidy-length slot t NoLength = Settled
 tidy-length slot t (Long l rate) = cond (le l (mul on-edge (add one t)) && le rate tie) (Empty slot) Settled
 
+-- `Tidy::Parallel`: an edge and its next on one line, facing opposite ways (a spike) or the same way (a straight vertex)
 unfoldable pub tidy-turn : List Edge → ℕ → Float → PlanarPoint → PlanarPoint → Tidy
 tidy-turn f slot t u w =
     cond (lt (add one (dot u w)) opposite) (Spike slot)
     (cond (lt (abs (cross u w)) parallel && lt zero-float (dot u w)) (Straight slot) (tidy-length slot t (edge-length f slot t)))
 
+-- `Tidy::Ring`: a ring of fewer than three edges
 unfoldable pub tidy-edge : List Edge → ℕ → Float → Edge → Tidy
 tidy-edge f slot t e =
     cond (ltb (ring-len f slot) 3) (SmallRing slot)
-    (tidy-turn f slot t (along (e .line)) (along ((edge f (e .next)) .line)))
+    (tidy-turn f slot t (direction (edge-line e)) (direction (edge-line (edge f (e .next)))))
 
 unfoldable pub tidy-at : List Edge → ℕ → Float → Edge → Tidy
 tidy-at f slot t e = cond (e .alive) (tidy-edge f slot t e) Settled
 
+-- the first finding stands
 unfoldable pub unless-found : Tidy → Tidy → Tidy
 unless-found Settled x = x
 unless-found (SmallRing k) x = SmallRing k
@@ -52,6 +57,8 @@ find-step f t slot s = unless-found s (tidy-at f slot t (edge f slot))
 
 unfoldable pub find-tidy : List Edge → Float → Tidy
 find-tidy f t = rounds (find-step f t) 128 Settled
+
+-- ---- `tidy_once`, what it does
 
 -- a ring too small is dropped whole, from its slot on: the walk ends where it comes round or meets a dead edge
 pub record Drop : Type 0 where
@@ -68,11 +75,11 @@ drop-step slot k s = cond (s .closed) s (drop-on slot ((edge (s .edges) (s .at))
 unfoldable pub drop-ring : List Edge → ℕ → List Edge
 drop-ring f slot = (rounds (drop-step slot) 128 (record { edges = f; at = slot; closed = false })) .edges
 
--- a straight vertex: one line, one edge
+-- a straight vertex: one line, one edge. The edge that ends there stays, its next goes.
 unfoldable pub drop-straight : List Edge → ℕ → Float → Front
 drop-straight f next t = then-remove next (anchor f ((edge f next) .next) t)
 
--- a midpoint is the sum halved
+-- `f64::midpoint`: a midpoint is the sum halved
 unfoldable pub midpoint : PlanarPoint → PlanarPoint → PlanarPoint
 midpoint p q = record { east = div (add (p .east) (q .east)) two; north = div (add (p .north) (q .north)) two }
 
@@ -80,25 +87,25 @@ unfoldable pub meeting-or : PlanarPoint → PlanarPoint → Place → PlanarPoin
 meeting-or p q Nowhere = midpoint p q
 meeting-or p q (There r) = r
 
+-- a spike, or an inlet of no width: both edges go, and the edges on either side, `before` and `after`, meet afresh
 unfoldable pub drop-both : List Edge → ℕ → ℕ → ℕ → PlanarPoint → Float → Front
-drop-both f slot next after start t = moved (set-start (remove (remove f next) slot) after start t)
+drop-both f slot next after start t = altered (set-start (remove (remove f next) slot) after start t)
 
 unfoldable pub spike-to : List Edge → ℕ → ℕ → ℕ → ℕ → Float → PlanarPoint → Vertex → Front
-spike-to f slot before next after t p NoVertex = lost f
+spike-to f slot before next after t p NoVertex = stalled f
 spike-to f slot before next after t p (Moving q w) =
-    drop-both f slot next after (meeting-or p q (meeting ((edge f before) .line) ((edge f after) .line) t)) t
+    drop-both f slot next after (meeting-or p q (meeting (edge-line (edge f before)) (edge-line (edge f after)) t)) t
 
 unfoldable pub spike-from : List Edge → ℕ → ℕ → ℕ → ℕ → Float → Vertex → Front
-spike-from f slot before next after t NoVertex = lost f
+spike-from f slot before next after t NoVertex = stalled f
 spike-from f slot before next after t (Moving p v) = spike-to f slot before next after t p (vertex f after t)
 
--- a zero-width spike or inlet: the edges on either side meet afresh
 unfoldable pub drop-spike : List Edge → ℕ → ℕ → Float → Front
 drop-spike f slot next t = spike-from f slot ((edge f slot) .previous) next ((edge f next) .next) t (vertex f slot t)
 
 unfoldable pub tidy-by : List Edge → Float → Tidy → Front
-tidy-by f t Settled = record { edges = f; lost = false; changed = false }
-tidy-by f t (SmallRing slot) = moved (drop-ring f slot)
+tidy-by f t Settled = record { edges = f; stalled = false; changed = false }
+tidy-by f t (SmallRing slot) = altered (drop-ring f slot)
 tidy-by f t (Straight slot) = drop-straight f ((edge f slot) .next) t
 tidy-by f t (Spike slot) = drop-spike f slot ((edge f slot) .next) t
 tidy-by f t (Empty slot) = collapse f slot t
@@ -106,11 +113,13 @@ tidy-by f t (Empty slot) = collapse f slot t
 unfoldable pub tidy-once : List Edge → Float → Front
 tidy-once f t = tidy-by f t (find-tidy f t)
 
+-- ---- `tidy`: 129 steps at most, until one changes nothing or meets a vertex without a velocity
+
 unfoldable pub tidy-step : Float → ℕ → Front → Front
-tidy-step t k s = cond (s .changed && not (s .lost)) (tidy-once (s .edges) t) s
+tidy-step t k s = cond (s .changed && not (s .stalled)) (tidy-once (s .edges) t) s
 
 unfoldable pub tidy : List Edge → Float → Front
-tidy f t = rounds (tidy-step t) 129 (moved f)
+tidy f t = rounds (tidy-step t) 129 (altered f)
 
 -- opens every definition above, for a proof that computes with all of them
 unfoldable pub open-tidying : Unit {0}

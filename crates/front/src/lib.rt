@@ -81,7 +81,8 @@ pub enum Length {
     Long(f64, f64),
 }
 
-// What a tidying step removes, and at which slot.
+// What a tidying step removes, and at which slot: nothing; a ring of fewer than three edges; the second of two neighbours that face the same way; both of two that face
+// opposite ways; an edge of no length that does not grow.
 pub enum Tidy {
     Settled,
     SmallRing(usize),
@@ -101,16 +102,16 @@ pub enum SoonestSplit {
     SplitAfter(usize, usize, f64),
 }
 
-// The search for the next event.
+// The search for the next event. `stalled`: a vertex that it needed has no velocity.
 pub struct EventSearch {
-    pub lost: bool,
+    pub stalled: bool,
     pub collapse: SoonestCollapse,
     pub split: SoonestSplit,
 }
 
-// The next event, and how much further it lies. `Lost`: a vertex has no velocity; `Never`: nothing shrinks and nothing is hit.
+// The next event, and how much further it lies. `Stalled`: a vertex has no velocity; `Never`: nothing shrinks and nothing is hit.
 pub enum Event {
-    Lost,
+    Stalled,
     Never,
     Collapse(usize, f64),
     Split(usize, usize, f64),
@@ -130,17 +131,18 @@ pub struct Reach {
     pub closed: bool,
 }
 
-// The front, after a step that may lose a vertex; `changed`: whether tidying took something out.
+// The front after a step. `stalled`: a vertex that the step needed has no velocity, and nothing was changed; `changed`: whether tidying took something out.
 pub struct Front {
     pub edges: [Edge; 128],
-    pub lost: bool,
+    pub stalled: bool,
     pub changed: bool,
 }
 
-// The front while the rings load: the slots taken so far.
+// The front while the rings load: the slots taken and the rings begun so far.
 pub struct Loaded {
     pub edges: [Edge; 128],
     pub used: usize,
+    pub rings: usize,
     pub refusal: Refusal,
 }
 
@@ -153,4 +155,14 @@ pub struct Sweep {
     pub joins: usize,
     pub ended: bool,
     pub refusal: Refusal,
+}
+
+// A ring of the finished front while it is walked: its vertices, and the slots passed in this ring and the earlier ones.
+pub struct Walk {
+    pub at: usize,
+    pub seen: [bool; 128],
+    pub points: [f64; 256],
+    pub count: usize,
+    pub closed: bool,
+    pub lost: bool,
 }

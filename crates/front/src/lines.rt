@@ -10,6 +10,7 @@ use super::Place;
 use super::Through;
 use plane::PlanarPoint;
 
+// `Option`, as an enum: nothing where the test holds.
 pub fn line_unless(test: bool, l: Line) -> Through
     ensures { λ r. ⌜ r ≡ cond test NoLine (Along l) ⌝ }
 {
@@ -30,8 +31,9 @@ pub fn place_unless(test: bool, p: PlanarPoint) -> Place
     }
 }
 
-pub fn along(l: Line) -> PlanarPoint
-    ensures { λ r. ⌜ r ≡ Lines.along l ⌝ }
+// `Line::u` and `Line::n` as vectors.
+pub fn direction(l: Line) -> PlanarPoint
+    ensures { λ r. ⌜ r ≡ Lines.direction l ⌝ }
 {
     PlanarPoint {
         east: l.u0,
@@ -48,6 +50,7 @@ pub fn normal(l: Line) -> PlanarPoint
     }
 }
 
+// The line that starts at a point, along a unit direction.
 pub fn line_along(start: PlanarPoint, u0: f64, u1: f64) -> Line
     ensures { λ r. ⌜ r ≡ Lines.line-along start u0 u1 ⌝ }
 {

@@ -1,18 +1,16 @@
 -- A double without its sign, and the test of a finite one. Assumes nothing.
-use mathlib.Core.Path.{_≡_, refl, sym, ap, _∙_, subst}
+use mathlib.Core.Path.{_≡_, refl, sym, ap, _∙_}
 use mathlib.Core.Bool.{Bool, true, false, not, _&&_}
-use Prim.Native.Nat.{ℕ, _+_, _*_, _%_, _^_, _<_}
+use Prim.Native.Nat.{ℕ, _%_, _^_, _<_}
 use native.Mathlib.Omega.{arith}
-use lib.Dec.{T, leb, ltb}
+use lib.Dec.{T}
 use lib.IntN.{ℤ}
 use lib.Ieee.{Float, nan, inf, fin, binary64, lt, neg, fits, isNan, toBits, ofBits}
-use lib.Ieee.Exact.{HasValue}
 use lib.Ieee.Fits.{neg-fits}
 use lib.Ieee.Bits.{ofBits-toBits}
 use borrow.Author.Tests.{leb-false}
 use Rattle.math.specs.Number.{abs, finite, infinity}
-use Rattle.math.specs.Parts.{units-of}
-use Rattle.math.proofs.Values.{magnitude-fin, value-of}
+use Rattle.math.proofs.Values.{value-fin}
 
 pub finite-test : (x : Float) → (lt x infinity && lt (neg infinity) x) ≡ finite x
 unfolding lt neg ofBits finite
@@ -33,14 +31,7 @@ unsigned-fits false m e f = f
 unsigned-fits true m e f = neg-fits binary64 (fin true m e) f
 
 unsigned-lt : (m : ℕ) (e : ℤ) → T (fits binary64 (fin false m e)) → toBits binary64 (fin false m e) < 2 ^ 63
-unsigned-lt m e f =
-    leb-false (2 ^ 63) (toBits binary64 (fin false m e))
-    (sym
-    (subst
-    (λ (v : Float). HasValue v (leb (2 ^ 63) (toBits binary64 (fin false m e))) (units-of (toBits binary64 (fin false m e) % 2 ^ 63)) (2 ^ 1074))
-    (ofBits-toBits binary64 (fin false m e) f)
-    (value-of (toBits binary64 (fin false m e)) (magnitude-fin false m e f .0))
-    .0))
+unsigned-lt m e f = leb-false (2 ^ 63) (toBits binary64 (fin false m e)) (sym (value-fin false m e f .0))
 
 signed : (s : Bool) (m : ℕ) (e : ℤ) → toBits binary64 (fin false m e) < 2 ^ 63 → toBits binary64 (fin s m e) % 2 ^ 63 ≡ toBits binary64 (fin false m e)
 unfolding toBits

@@ -1,16 +1,15 @@
 -- From significands to units, and what a large gap between the exponents leaves. Assumes nothing.
-use mathlib.Core.Path.{_≡_, refl, sym, ap, _∙_, subst}
-use mathlib.Core.Bool.{false}
-use Prim.Native.Nat.{ℕ, zero, suc, _+_, _-_, _*_, _/_, _%_, _^_, _≤_, _<_, min}
-use native.Mathlib.Nat.{mul-le-mul, mul-le-mul-right, mul-lt-mul-of-pos-right, lt-of-lt-of-le, lt-of-le-of-lt, le-trans, mul-pos, le-mul-of-pos-right, lt-of-mul-lt-mul-right, mul-assoc}
+use mathlib.Core.Path.{_≡_, sym, ap, _∙_, subst}
+use Prim.Native.Nat.{ℕ, _+_, _-_, _*_, _/_, _%_, _^_, _≤_, _<_}
+use native.Mathlib.Nat.{mul-le-mul, mul-le-mul-right, mul-lt-mul-of-pos-right, lt-of-le-of-lt, mul-pos, lt-of-mul-lt-mul-right, mul-assoc}
 use native.Mathlib.Omega.{arith}
 use lib.Pow.{pow-pos, pow-mono, pow-add}
-use lib.Ieee.{binary64, units, ofBits}
-use Rattle.math.specs.Hypot.{round-root}
+use lib.Ieee.{binary64, ofBits}
+use Rattle.hypotenuse.specs.Hypot.{round-root}
 use Rattle.math.specs.Parts.{Twice, Fourth, Parts, exponent-of, significand-of, units-of}
-use Rattle.math.proofs.Poly.{poly}
-use Rattle.math.proofs.Roots.{sq-lt}
-use Rattle.math.proofs.Rounding.{near-one, near-two, round-root-is}
+use Rattle.hypotenuse.proofs.Poly.{poly}
+use Rattle.hypotenuse.proofs.Order.{sq-lt}
+use Rattle.math.proofs.Rounding.{near-one, round-root-is}
 use Rattle.math.proofs.Pattern.{finite-is}
 
 -- ---- the same root in a smaller unit

@@ -1,17 +1,17 @@
 -- From a root with a few binary digits too many to the rounded root of the definition. Assumes nothing.
-use mathlib.Core.Path.{_≡_, refl, sym, ap, _∙_, subst}
+use mathlib.Core.Path.{_≡_, sym, ap, _∙_, subst}
 use mathlib.Core.Logic.{_⊎_, inl, inr}
-use mathlib.Core.Bool.{Bool, false}
-use Prim.Native.Nat.{ℕ, zero, suc, _+_, _-_, _*_, _/_, _%_, _^_, _≤_, _<_, compare}
-use native.Mathlib.Nat.{mul-le-mul, mul-le-mul-right, mul-lt-mul-of-pos-right, lt-of-lt-of-le, lt-of-le-of-lt, le-trans}
+use mathlib.Core.Bool.{false}
+use Prim.Native.Nat.{ℕ, zero, suc, _+_, _*_, _/_, _%_, _^_, _≤_, _<_, compare}
+use native.Mathlib.Nat.{mul-le-mul, mul-le-mul-right, mul-lt-mul-of-pos-right, lt-of-lt-of-le, le-trans}
 use native.Mathlib.Omega.{arith}
 use native.Mathlib.Numerals.{add-one}
 use lib.Pow.{pow-pos, pow-add}
 use lib.Ieee.{binary64, nearest, units}
-use Rattle.math.specs.Hypot.{dropped, kept, round-root}
+use Rattle.hypotenuse.specs.Hypot.{kept, round-root}
 use Rattle.math.specs.Parts.{Twice, Fourth}
-use Rattle.math.proofs.Poly.{poly}
-use Rattle.math.proofs.Whole.{Digits, dropped-is, kept-is, nearest-lt, nearest-eq, nearest-gt}
+use Rattle.hypotenuse.proofs.Poly.{poly}
+use Rattle.hypotenuse.proofs.Whole.{Digits, dropped-is, kept-is, nearest-lt, nearest-eq, nearest-gt}
 
 -- Four times the root of s in units of 2 ^ k lies from g on and below t, and is g where rest is 0.
 pub record Near (s k g t rest : ℕ) : Type 0 where

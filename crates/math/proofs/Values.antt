@@ -3,17 +3,17 @@ use mathlib.Core.Path.{_≡_, refl, sym, ap, _∙_, subst}
 use mathlib.Core.Logic.{_⊎_, inl, inr}
 use mathlib.Core.Bool.{Bool, true, false, not, cond}
 use Prim.Native.Nat.{ℕ, zero, suc, _+_, _-_, _*_, _/_, _%_, _^_, _≤_, _<_, min}
-use native.Mathlib.Nat.{eq-or-lt-of-le, mul-div-cancel, add-comm, lt-of-not-le, lt-irrefl, lt-of-le-of-lt}
+use native.Mathlib.Nat.{eq-or-lt-of-le, add-comm}
 use native.Mathlib.Omega.{arith}
-use lib.Dec.{T, leb, ltb, eqb, eqb→eq, not-T, T-not, nltb→le}
+use lib.Dec.{T, leb, ltb, eqb, eqb→eq, not-T, nltb→le}
 use lib.Pow.{mod-mod-pow}
-use lib.IntN.{ℤ, pos}
-use lib.Ieee.{Float, nan, inf, fin, binary64, up, down, odd, ofFields, ofBits, toBits, fits, isNan, nanBits, ne, div}
+use lib.IntN.{ℤ}
+use lib.Ieee.{Float, nan, inf, fin, binary64, odd, ofFields, ofBits, toBits, fits, isNan, nanBits, ne, div}
 use lib.Ieee.Exact.{HasValue, odd-sign}
-use lib.Ieee.Fits.{down-pos}
 use lib.Ieee.Bits.{ofBits-toBits, nanBits-is, nanBits-above, cond-no}
 use lib.Ieee.Compare.{differs-from-itself}
-use Rattle.math.specs.Hypot.{hypot, round-root, count}
+use Rattle.hypotenuse.proofs.Units.{count-of}
+use Rattle.hypotenuse.specs.Hypot.{hypot, round-root, count}
 use Rattle.math.specs.Parts.{Larger, units-of}
 
 -- ---- the fields of a pattern
@@ -70,23 +70,27 @@ isInf nan = false
 isInf (inf s) = true
 isInf (fin s m e) = false
 
-count-of : (s t : Bool) (m : ℕ) (e : ℤ) (a : ℕ) → HasValue (fin s m e) t a (2 ^ 1074) → a ≡ count m e
-count-of s t m e a h = sym (ap (λ (x : ℕ). x / down e) (h .1) ∙ mul-div-cancel a (down-pos e))
-
-pub magnitude-fin : (s : Bool) (m : ℕ) (e : ℤ) → T (fits binary64 (fin s m e))
-    → (toBits binary64 (fin s m e) % 2 ^ 63 < 2047 * 2 ^ 52) × (units-of (toBits binary64 (fin s m e) % 2 ^ 63) ≡ count m e)
+magnitude-lt : (s : Bool) (m : ℕ) (e : ℤ) → T (fits binary64 (fin s m e)) → toBits binary64 (fin s m e) % 2 ^ 63 < 2047 * 2 ^ 52
 unfolding isNan isInf
-magnitude-fin s m e f = (small, count-of s (leb (2 ^ 63) b) m e (units-of (b % 2 ^ 63)) (subst (λ (v : Float). HasValue v (leb (2 ^ 63) b) (units-of (b % 2 ^ 63)) (2 ^ 1074)) (ofBits-toBits binary64 (fin s m e) f) (value-of b small)))
+magnitude-lt s m e f = go (eq-or-lt-of-le (magnitude-le (fin s m e) f tt))
   where
     b : ℕ
     b = toBits binary64 (fin s m e)
 
-    small : b % 2 ^ 63 < 2047 * 2 ^ 52
-    small = go (eq-or-lt-of-le (magnitude-le (fin s m e) f tt))
-      where
-        go : (b % 2 ^ 63 ≡ 2047 * 2 ^ 52) ⊎ (b % 2 ^ 63 < 2047 * 2 ^ 52) → b % 2 ^ 63 < 2047 * 2 ^ 52
-        go (inl q) = absurd (subst T (sym (ap isInf (sym (ofBits-toBits binary64 (fin s m e) f) ∙ infinite-of b q))) tt)
-        go (inr l) = l
+    go : (b % 2 ^ 63 ≡ 2047 * 2 ^ 52) ⊎ (b % 2 ^ 63 < 2047 * 2 ^ 52) → b % 2 ^ 63 < 2047 * 2 ^ 52
+    go (inl q) = absurd (subst T (sym (ap isInf (sym (ofBits-toBits binary64 (fin s m e) f) ∙ infinite-of b q))) tt)
+    go (inr l) = l
+
+pub value-fin : (s : Bool) (m : ℕ) (e : ℤ) → T (fits binary64 (fin s m e))
+    → HasValue (fin s m e) (leb (2 ^ 63) (toBits binary64 (fin s m e))) (units-of (toBits binary64 (fin s m e) % 2 ^ 63)) (2 ^ 1074)
+value-fin s m e f = subst (λ (v : Float). HasValue v (leb (2 ^ 63) b) (units-of (b % 2 ^ 63)) (2 ^ 1074)) (ofBits-toBits binary64 (fin s m e) f) (value-of b (magnitude-lt s m e f))
+  where
+    b : ℕ
+    b = toBits binary64 (fin s m e)
+
+pub magnitude-fin : (s : Bool) (m : ℕ) (e : ℤ) → T (fits binary64 (fin s m e))
+    → (toBits binary64 (fin s m e) % 2 ^ 63 < 2047 * 2 ^ 52) × (units-of (toBits binary64 (fin s m e) % 2 ^ 63) ≡ count m e)
+magnitude-fin s m e f = (magnitude-lt s m e f, count-of s _ m e _ (value-fin s m e f))
 
 -- ---- a pattern up to that of infinity is no NaN's
 pub no-nan : (r : ℕ) → r ≤ 2047 * 2 ^ 52 → T (not (nanBits binary64 r))

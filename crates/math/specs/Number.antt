@@ -1,7 +1,8 @@
--- The float operations of the port, each rounded once to binary64, its constants, and Rust's `abs`, `min`, `max` and `clamp`.
--- `max` and `min` pass over a `nan`; of two equal ones they give the second. Assumes nothing.
+-- The float operations of the port, all on f64 (01), its constants, and `abs`, `min`, `max` and `clamp` of the Rust. Definitions only.
 use mathlib.Core.Bool.{Bool, true, false, cond}
 use lib.Ieee.{Float, nan, inf, fin, binary64, lt, eq, ofBits}
+
+-- ---- Rust's +, -, * and /, each rounded once
 
 abbrev pub add : Float → Float → Float
 add x y = lib.Ieee.add binary64 x y
@@ -31,23 +32,26 @@ two = ofBits binary64 0x4000000000000000
 
 -- ---- abs, min, max, clamp
 
+-- math.rs `abs`
 unfoldable pub abs : Float → Float
 abs nan = nan
 abs (inf s) = inf false
 abs (fin s m e) = fin false m e
 
+-- `f64::min` and `f64::max`: they pass over a NaN (01, polygon.rs). Which zero they give is not compared; of two equal ones this gives the second.
 unfoldable pub fmin : Float → Float → Float
 fmin x y = cond (lt x y) x (cond (eq y y) y x)
 
 unfoldable pub fmax : Float → Float → Float
 fmax x y = cond (lt y x) x (cond (eq y y) y x)
 
+-- `f64::is_finite`
 unfoldable pub finite : Float → Bool
 finite nan = false
 finite (inf s) = false
 finite (fin s m e) = true
 
--- between 0 and 1: below 0 it is 0, and then above 1 it is 1
+-- `f64::clamp(0.0, 1.0)`: below 0 it is 0, and then above 1 it is 1, and a NaN stays
 unfoldable pub raised : Float → Float
 raised x = cond (lt x zero-float) zero-float x
 
@@ -57,7 +61,7 @@ lowered x = cond (lt one x) one x
 unfoldable pub clamp : Float → Float
 clamp x = lowered (raised x)
 
--- an infinite or `nan` distance reads 0
+-- 01, math.rs: an infinite or NaN distance reads 0, as `unwrap_or(Distance::ZERO)` has it
 unfoldable pub distance : Float → Float
 distance x = cond (finite x) x zero-float
 

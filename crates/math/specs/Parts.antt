@@ -1,8 +1,8 @@
--- What the parts of `hypot` promise one another.
+-- What the functions of `root.rt`, the parts of `hypot`, promise one another. Definitions only.
 use mathlib.Core.Path.{_≡_}
 use mathlib.Core.Bool.{false}
 use lib.Ieee.{Float, inf, binary64}
-use Rattle.math.specs.Hypot.{round-root}
+use Rattle.hypotenuse.specs.Hypot.{round-root}
 use Prim.Native.Nat.{ℕ, _+_, _-_, _*_, _/_, _%_, _^_, _≤_, _<_, min}
 
 -- root is the whole part of the root of n, and rest is what it leaves

@@ -2,7 +2,7 @@
 ghost use mathlib.Core.Path.{_≡_};
 ghost use mathlib.Core.Bool.{cond};
 ghost use lib.Ieee.{nan};
-ghost use Rattle.math.specs.Hypot;
+ghost use Rattle.hypotenuse.specs.Hypot;
 ghost use Rattle.math.specs.Number;
 
 mod root;

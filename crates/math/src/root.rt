@@ -3,8 +3,8 @@ ghost use mathlib.Core.Path.{_≡_};
 ghost use mathlib.Core.Bool.{not, false};
 ghost use Prim.Native.Nat.{ℕ, _+_, _-_, _*_, _/_, _%_, _^_, _≤_, _<_};
 ghost use lib.Dec.{T};
-ghost use lib.Ieee.{nan, inf, binary64, toBits, ofBits, isNan, units};
-ghost use Rattle.math.specs.Hypot.{hypot, round-root};
+ghost use lib.Ieee.{nan, binary64, toBits, ofBits, isNan, units};
+ghost use Rattle.hypotenuse.specs.Hypot.{hypot, round-root};
 ghost use Rattle.math.specs.Parts.{RootOf, Halved, WideOf, CutOf, Twice, Fourth, Parts, Larger, exponent-of, significand-of, units-of};
 
 // 2^27, 2^52, 2^54, and the pattern of infinity.
@@ -290,7 +290,7 @@ fn of_finite(a: u64, b: u64) -> u64
 }
 
 // The pattern of x without its sign.
-pub fn magnitude(x: f64) -> u64
+pub(crate) fn magnitude(x: f64) -> u64
     requires { ⌜ T (not (isNan x)) ⌝ }
     ensures { λ r. ⌜ r ≡ toBits binary64 x % 2 ^ 63 ⌝ }
 {
@@ -298,7 +298,7 @@ pub fn magnitude(x: f64) -> u64
 }
 
 // The rounded root of two patterns without a sign, none of them a NaN's, b being at most a.
-pub fn of_magnitudes(a: u64, b: u64) -> f64
+pub(crate) fn of_magnitudes(a: u64, b: u64) -> f64
     requires { ⌜ b ≤ a ⌝ }
     requires { ⌜ a ≤ 0x7ff0_0000_0000_0000 ⌝ }
     ensures { λ r. ⌜ Larger a b r ⌝ }
@@ -310,7 +310,7 @@ pub fn of_magnitudes(a: u64, b: u64) -> f64
 }
 
 // What stands beside a NaN decides: an infinity gives infinity.
-pub fn beside_nan(y: f64) -> f64
+pub(crate) fn beside_nan(y: f64) -> f64
     ensures { λ r. ⌜ r ≡ hypot nan y ⌝ }
 {
     if y != y {

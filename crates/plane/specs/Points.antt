@@ -5,7 +5,7 @@ use Rattle.error.specs.declared.Refusal.{Refusal}
 use Rattle.error.specs.declared.Refusal.the-variants.{Granted, NotFinite, Negative}
 use Rattle.error.specs.Refusals.{granted}
 use Rattle.math.specs.Number.{mul, div, zero-float, finite, distance}
-use Rattle.math.specs.Hypot.{hypot}
+use Rattle.hypotenuse.specs.Hypot.{hypot}
 use Rattle.plane.specs.declared.PlanarPoint.{PlanarPoint}
 use Rattle.plane.specs.declared.NewPoint.{NewPoint}
 use Rattle.plane.specs.declared.Area.{Area}

@@ -2,7 +2,7 @@
 use Prim.Native.Nat.{ℕ, _+_, _*_}
 use mathlib.Core.Bool.{Bool, cond}
 use mathlib.Core.List.{List}
-use lib.Dec.{leb}
+use lib.Dec.{leb, ltb}
 use lib.ListN.{getD, set, length}
 use lib.Ieee.{Float, nan}
 use Rattle.plane.specs.declared.PlanarPoint.{PlanarPoint}
@@ -59,6 +59,17 @@ outline-perimeter o = measured (ask-outline o Granted) (Ring.perimeter (o .point
 unfoldable pub outline-clearance : Outline → Outline → Measured
 outline-clearance a b = measured (ask-outline a (ask-outline b Granted)) (Outlines.clearance a b)
 
+-- ---- the readers `vertices` and `edges`: edge k runs from vertex k to the vertex after it, the last one closing the ring. There is none from `count` on: it reads (0, 0).
+
+unfoldable pub read-vertex : Outline → ℕ → ℕ → PlanarPoint
+read-vertex o k at = cond (ltb k (o .count)) (Ring.vertex-at (o .points) at) (record { east = zero-float; north = zero-float })
+
+unfoldable pub outline-vertex : Outline → ℕ → Footed
+outline-vertex o k = footed (ask-outline o Granted) (read-vertex o k k)
+
+unfoldable pub outline-edge-end : Outline → ℕ → Footed
+outline-edge-end o k = footed (ask-outline o Granted) (read-vertex o k (Ring.following (o .count) k))
+
 -- ---- question 20: lent output, two numbers a vertex. A refused write changes nothing, and a granted one only the numbers that it writes.
 
 unfoldable pub write-step : List Float → ℕ → ℕ → List Float → List Float
@@ -71,10 +82,15 @@ write-ring ps n base out = rounds (write-step ps base) (2 * n) out
 unfoldable pub write-refusal : ℕ → List Float → Refusal
 write-refusal needed out = cond (leb needed (length out)) Granted (Short needed)
 
+-- what a write of an outline answers: 21, then 20
+unfoldable pub outline-write : Outline → List Float → Refusal
+outline-write o out = ask-outline o (write-refusal (2 * o .count) out)
+
+-- the lent numbers afterwards
 unfoldable pub written-outline : Outline → List Float → List Float
-written-outline o out = cond (leb (2 * o .count) (length out)) (write-ring (o .points) (o .count) 0 out) out
+written-outline o out = cond (granted (outline-write o out)) (write-ring (o .points) (o .count) 0 out) out
 
 -- opens every definition above, for a proof that computes with all of them
 unfoldable pub open-queries : Unit {0}
-unfolding ask ask-outline placed measured footed outline-contains outline-distance outline-closest outline-area outline-perimeter outline-clearance write-step write-ring write-refusal written-outline
+unfolding ask ask-outline placed measured footed outline-contains outline-distance outline-closest outline-area outline-perimeter outline-clearance read-vertex outline-vertex outline-edge-end write-step write-ring write-refusal outline-write written-outline
 open-queries = tt

@@ -8,10 +8,10 @@ use lib.Ieee.{Float}
 use Rattle.region.specs.declared.Region.{Region}
 use Rattle.region.specs.declared.RegionLoad.{RegionLoad}
 use Rattle.region.specs.declared.NewRegion.{NewRegion}
-use Rattle.plane.specs.declared.Containment.{Containment}
-use Rattle.plane.specs.declared.Containment.the-variants.{Inside, OnBoundary, Outside}
+use Rattle.plane.specs.declared.PlanarPoint.{PlanarPoint}
+use Rattle.polygon.specs.declared.Outline.{Outline}
 use Rattle.error.specs.declared.Refusal.{Refusal}
-use Rattle.error.specs.declared.Refusal.the-variants.{Granted, HoleOutside, HolesTouch, ManyHoles, Lengths, Odd}
+use Rattle.error.specs.declared.Refusal.the-variants.{Granted, HoleOutside, HolesTouch, ManyHoles, Lengths, Odd, Shape}
 use Rattle.ringcheck.specs.declared.Checked.{Checked}
 use Rattle.ring.specs.Ring.{vertex-at}
 use Rattle.locate.specs.Contains.{ring-contains}
@@ -20,28 +20,17 @@ use Rattle.locate.specs.Meet.{rings-meet}
 use Rattle.error.specs.Refusals.{granted}
 use Rattle.region.specs.Regions.{hole-points, hole-count, no-region, with-hole, with-outer}
 use Rattle.ringcheck.specs.Checks.{check-ring}
-use Rattle.polygon.specs.Outlines.{stored-outline, check-finite, proper}
+use Rattle.polygon.specs.Outlines.{no-outline, stored-outline, check-finite, proper}
+use Rattle.offset.specs.Clear.{is-inside, is-outside, every-vertex}
 
 -- ---- questions 10 to 12 of a region whose rings have passed 4 to 9
 
-unfoldable pub is-inside : Containment → Bool
-is-inside Inside = true
-is-inside OnBoundary = false
-is-inside Outside = false
+unfoldable pub inside-of : List Float → ℕ → PlanarPoint → Bool
+inside-of ps n p = is-inside (ring-contains ps n p)
 
-unfoldable pub is-outside : Containment → Bool
-is-outside Inside = false
-is-outside OnBoundary = false
-is-outside Outside = true
-
-unfoldable pub inside-step : List Float → ℕ → List Float → ℕ → Bool → Bool
-inside-step ps n qs k s = s && is-inside (ring-contains ps n (vertex-at qs k))
-
-unfoldable pub all-inside : List Float → ℕ → List Float → ℕ → Bool
-all-inside ps n qs m = rounds (inside-step ps n qs) m true
-
+-- question 11: every vertex inside the outer ring, and no edge that meets it
 unfoldable pub hole-free : List Float → ℕ → List Float → ℕ → Bool
-hole-free ps n qs m = all-inside ps n qs m && not (rings-meet ps n qs m)
+hole-free ps n qs m = every-vertex (inside-of ps n) qs m && not (rings-meet ps n qs m)
 
 unfoldable pub hole-step : Region → ℕ → Refusal → Refusal
 hole-step r k s =
@@ -52,6 +41,7 @@ hole-step r k s =
 unfoldable pub check-holes : Region → Refusal
 check-holes r = rounds (hole-step r) (r .holes) Granted
 
+-- question 12: no edges meet, and neither holds the other's first vertex
 unfoldable pub holes-touch : List Float → ℕ → List Float → ℕ → Bool
 holes-touch ps n qs m =
     rings-meet ps n qs m ||
@@ -77,20 +67,24 @@ then-apart r s = cond (granted s) (check-apart r) s
 unfoldable pub check-region : Region → Refusal
 check-region r = cond (leb (r .holes) 8) (then-apart r (check-holes r)) (ManyHoles (r .holes))
 
+unfoldable pub region-refused : Refusal → NewRegion
+region-refused r = record { refusal = r; shape = no-region }
+
 unfoldable pub region-if : Region → Refusal → NewRegion
-region-if r s = cond (granted s) (record { refusal = Granted; shape = r }) (record { refusal = s; shape = no-region })
+region-if r s = cond (granted s) (record { refusal = Granted; shape = r }) (region-refused s)
 
--- ---- a region from numbers: questions 1 to 12. Ring k has `getD lengths k` vertices, one ring after the other
+-- ---- a region from numbers: questions 1 to 12. Ring k has `getD lengths k` vertices, one ring after the other; every ring passes 4 to 9 before 10 is asked
 
-unfoldable pub load-refused : RegionLoad → Refusal → RegionLoad
-load-refused s r = record { refusal = r; shape = s .shape; start = s .start }
+unfoldable pub rings-refused : RegionLoad → Refusal → RegionLoad
+rings-refused s r = record { refusal = r; shape = s .shape; start = s .start }
 
 unfoldable pub hole-loaded : RegionLoad → List Float → ℕ → Checked → RegionLoad
 hole-loaded s ps n c =
     cond (granted (c .refusal))
     (record { refusal = Granted; shape = with-hole (s .shape) ps (c .count) (c .back); start = s .start + n })
-    (load-refused s (c .refusal))
+    (rings-refused s (c .refusal))
 
+-- ring k + 1 of the input is hole k
 unfoldable pub hole-load-step : List ℕ → List Float → ℕ → RegionLoad → RegionLoad
 hole-load-step lengths ps k s =
     cond (granted (s .refusal))
@@ -108,8 +102,7 @@ load-rings lengths ps =
     rounds (hole-load-step lengths ps) (length lengths - 1) (outer-loaded ps (getD lengths 0 0) (check-ring 128 0 ps (getD lengths 0 0)))
 
 unfoldable pub region-loaded : RegionLoad → NewRegion
-region-loaded s =
-    cond (granted (s .refusal)) (region-if (s .shape) (check-region (s .shape))) (record { refusal = s .refusal; shape = no-region })
+region-loaded s = cond (granted (s .refusal)) (region-if (s .shape) (check-region (s .shape))) (region-refused (s .refusal))
 
 unfoldable pub total-step : List ℕ → ℕ → ℕ → ℕ
 total-step lengths k s = s + getD lengths k 0
@@ -120,13 +113,11 @@ total lengths = rounds (total-step lengths) (length lengths) 0
 unfoldable pub region-finite : List ℕ → List Float → Refusal → NewRegion
 region-finite lengths ps r =
     cond (granted r)
-    (cond (ltb 0 (length lengths) && eqb (2 * total lengths) (length ps)) (region-loaded (load-rings lengths ps))
-    (record { refusal = Lengths; shape = no-region }))
-    (record { refusal = r; shape = no-region })
+    (cond (ltb 0 (length lengths) && eqb (2 * total lengths) (length ps)) (region-loaded (load-rings lengths ps)) (region-refused Lengths))
+    (region-refused r)
 
 unfoldable pub region : List ℕ → List Float → NewRegion
-region lengths ps =
-    cond (eqb (length ps % 2) 0) (region-finite lengths ps (check-finite ps)) (record { refusal = Odd; shape = no-region })
+region lengths ps = cond (eqb (length ps % 2) 0) (region-finite lengths ps (check-finite ps)) (region-refused Odd)
 
 -- question 21 of a region
 unfoldable pub proper-step : Region → ℕ → Bool → Bool
@@ -136,7 +127,30 @@ unfoldable pub proper-region : Region → Bool
 proper-region r =
     proper 128 (r .outer .points) (r .outer .count) && (leb (r .holes) 8 && rounds (proper-step r) (r .holes) true)
 
+-- ---- holes.rs, `Region::new` and `without_holes` of outlines that are handed in: 21 of the outer ring and of each hole, then 10 to 12
+
+unfoldable pub given-hole : List Outline → ℕ → Outline
+given-hole hs k = getD hs k no-outline
+
+unfoldable pub proper-given-step : List Outline → ℕ → Bool → Bool
+proper-given-step hs k s = s && proper 32 ((given-hole hs k) .points) ((given-hole hs k) .count)
+
+unfoldable pub proper-given : Outline → List Outline → Bool
+proper-given o hs = proper 128 (o .points) (o .count) && rounds (proper-given-step hs) (length hs) true
+
+unfoldable pub given-step : List Outline → ℕ → Region → Region
+given-step hs k r = with-hole r ((given-hole hs k) .points) ((given-hole hs k) .count) false
+
+unfoldable pub given-rings : Outline → List Outline → Region
+given-rings o hs = rounds (given-step hs) (length hs) (with-outer no-region o)
+
+unfoldable pub region-given : Outline → List Outline → NewRegion
+region-given o hs = cond (proper-given o hs) (region-if (given-rings o hs) (check-region (given-rings o hs))) (region-refused Shape)
+
+unfoldable pub without-holes : Outline → NewRegion
+without-holes o = cond (proper 128 (o .points) (o .count)) (record { refusal = Granted; shape = with-outer no-region o }) (region-refused Shape)
+
 -- opens every definition above, for a proof that computes with all of them
 unfoldable pub open-checks : Unit {0}
-unfolding is-inside is-outside inside-step all-inside hole-free hole-step check-holes holes-touch second-step first-step check-apart then-apart check-region region-if load-refused hole-loaded hole-load-step outer-loaded load-rings region-loaded total-step total region-finite region proper-step proper-region
+unfolding inside-of hole-free hole-step check-holes holes-touch second-step first-step check-apart then-apart check-region region-refused region-if rings-refused hole-loaded hole-load-step outer-loaded load-rings region-loaded total-step total region-finite region proper-step proper-region given-hole proper-given-step proper-given given-step given-rings region-given without-holes
 open-checks = tt

@@ -1,103 +1,83 @@
--- holes.rs, `Region::inset`: the pieces, the check that they keep clear, and the inset. Assumes nothing.
+-- holes.rs, `Region::inset`: 21, 13 and 14, the sweep of outer ring and holes together, the pieces of its finished rings, and what is asked of the region that is left.
+-- Assumes nothing.
 use Prim.Native.Nat.{ℕ, _+_}
 use mathlib.Core.Bool.{Bool, true, false, cond, not, _&&_, _||_}
 use mathlib.Core.List.{List}
 use lib.Dec.{ltb}
-use lib.ListN.{replicate}
 use lib.Ieee.{Float, lt, le, eq}
 use Rattle.region.specs.declared.Region.{Region}
+use Rattle.region.specs.declared.NewRegion.{NewRegion}
 use Rattle.region.specs.declared.RegionPieces.{RegionPieces}
 use Rattle.region.specs.declared.RegionOffset.{RegionOffset}
 use Rattle.error.specs.declared.Refusal.{Refusal}
 use Rattle.error.specs.declared.Refusal.the-variants.{Granted, Splits, ManyPieces, Collapses, Shape}
-use Rattle.polygon.specs.declared.Outline.{Outline}
-use Rattle.offset.specs.declared.Walk.{Walk}
-use Rattle.ringcheck.specs.declared.Checked.{Checked}
 use Rattle.plane.specs.declared.PlanarPoint.{PlanarPoint}
 use Rattle.front.specs.declared.Edge.{Edge}
+use Rattle.front.specs.declared.Walk.{Walk}
 use Rattle.front.specs.declared.Sweep.{Sweep}
 use Rattle.front.specs.declared.Loaded.{Loaded}
+use Rattle.offset.specs.declared.Piece.{Piece}
+use Rattle.offset.specs.declared.Piece.the-variants.{Shrunk, Failed, Whole}
 use Rattle.math.specs.Number
-use Rattle.region.specs.Regions.{no-region, with-outer, with-hole, region-contains, distance-to-boundary, ring-points, ring-count, region-extent, hole-points, hole-count}
-use Rattle.error.specs.Refusals.{offset-failure, region-failure, granted}
-use Rattle.offset.specs.Offsets.{vanished, walk, starts, check-distance}
-use Rattle.polygon.specs.Outlines.{stored-outline, offset-tolerance}
 use Rattle.math.specs.Number.{zero-float}
-use Rattle.ring.specs.Ring.{signed-area, vertex-at}
-use Rattle.ringcheck.specs.Checks.{check-ring}
+use Rattle.error.specs.Refusals.{region-failure, granted}
 use Rattle.loops.specs.Loop.{rounds}
-use Rattle.region.specs.Checks.{is-inside, check-region, proper-region}
+use Rattle.ring.specs.Ring.{signed-area, vertex-at}
 use Rattle.locate.specs.Meet.{rings-meet}
+use Rattle.polygon.specs.Outlines.{stored-outline, offset-tolerance}
 use Rattle.front.specs.Loading.{load-ring, loaded-nothing}
 use Rattle.front.specs.Sweeps.{offset-rings}
+use Rattle.front.specs.Finished.{for-each-ring}
+use Rattle.offset.specs.Clear.{is-inside, every-vertex}
+use Rattle.offset.specs.Rings.{offset-piece}
+use Rattle.offset.specs.Offsets.{check-distance}
+use Rattle.region.specs.Regions.{no-region, with-outer, store-hole, region-contains, distance-to-boundary, ring-points, ring-count, region-extent, hole-points, hole-count}
+use Rattle.region.specs.Checks.{check-region, proper-region, region-refused}
 
--- ---- the pieces of a region's inset
+-- ---- the pieces of a region's inset: a ring whose area is above 0 is the outer one, any other is a hole
 
-unfoldable pub pieces-refused : RegionPieces → Refusal → RegionPieces
-pieces-refused s r = record { refusal = r; found = false; shape = no-region; place = s .place; seen = s .seen }
+unfoldable pub region-pieces-refused : Refusal → RegionPieces
+region-pieces-refused r = record { refusal = r; found = false; shape = no-region }
 
-unfoldable pub pieces-skip : RegionPieces → List Bool → RegionPieces
-pieces-skip s seen = record { refusal = Granted; found = s .found; shape = s .shape; place = s .place + 1; seen = seen }
+unfoldable pub is-outer : Walk → Bool
+is-outer w = lt zero-float (signed-area (w .points) (w .count))
 
-unfoldable pub pieces-outer : RegionPieces → List Bool → Outline → RegionPieces
-pieces-outer s seen o = record { refusal = Granted; found = true; shape = with-outer (s .shape) o; place = s .place + 1; seen = seen }
+unfoldable pub with-outer-piece : Float → Walk → RegionPieces → ℕ → Bool → RegionPieces
+with-outer-piece d w s n back =
+    cond (s .found) (region-pieces-refused (Splits d))
+    (record { refusal = Granted; found = true; shape = with-outer (s .shape) (stored-outline (w .points) n back) })
 
-unfoldable pub pieces-hole : RegionPieces → List Bool → Region → RegionPieces
-pieces-hole s seen r = record { refusal = Granted; found = s .found; shape = r; place = s .place + 1; seen = seen }
+unfoldable pub with-hole-piece : Walk → RegionPieces → ℕ → Bool → RegionPieces
+with-hole-piece w s n back =
+    cond (ltb (s .shape .holes) 8) (record { refusal = Granted; found = s .found; shape = store-hole (s .shape) (w .points) n back })
+    (region-pieces-refused (ManyPieces 9))
 
-unfoldable pub piece-refused : Float → Float → RegionPieces → Walk → Refusal → RegionPieces
-piece-refused d tolerance s w r =
-    cond (vanished (w .points) (w .count) tolerance r) (pieces-skip s (w .seen)) (pieces-refused s (offset-failure d r))
+unfoldable pub with-region-piece : Float → Walk → RegionPieces → Piece → RegionPieces
+with-region-piece d w s Shrunk = s
+with-region-piece d w s (Failed r) = region-pieces-refused r
+with-region-piece d w s (Whole n back) = cond (is-outer w) (with-outer-piece d w s n back) (with-hole-piece w s n back)
 
-unfoldable pub outer-granted : Float → RegionPieces → Walk → Checked → RegionPieces
-outer-granted d s w c =
-    cond (s .found) (pieces-refused s (Splits d)) (pieces-outer s (w .seen) (stored-outline (w .points) (c .count) (c .back)))
+unfoldable pub visit-region-piece : Float → Float → ℕ → Walk → RegionPieces → RegionPieces
+visit-region-piece d tolerance place w s =
+    with-region-piece d w s (offset-piece (cond (is-outer w) 128 32) place d tolerance w)
 
-unfoldable pub outer-piece : Float → Float → RegionPieces → Walk → Checked → RegionPieces
-outer-piece d tolerance s w c =
-    cond (granted (c .refusal)) (outer-granted d s w c) (piece-refused d tolerance s w (c .refusal))
+unfoldable pub region-pieces-refusal : RegionPieces → Refusal
+region-pieces-refusal s = s .refusal
 
-unfoldable pub hole-granted : RegionPieces → Walk → Checked → RegionPieces
-hole-granted s w c =
-    cond (ltb (s .shape .holes) 8) (pieces-hole s (w .seen) (with-hole (s .shape) (w .points) (c .count) (c .back)))
-    (pieces-refused s (ManyPieces 9))
+unfoldable pub region-pieces : List Edge → PlanarPoint → Float → Float → RegionPieces
+region-pieces f origin d tolerance =
+    for-each-ring region-pieces-refusal (visit-region-piece d tolerance) f d origin (record { refusal = Granted; found = false; shape = no-region })
 
-unfoldable pub hole-piece : Float → Float → RegionPieces → Walk → Checked → RegionPieces
-hole-piece d tolerance s w c = cond (granted (c .refusal)) (hole-granted s w c) (piece-refused d tolerance s w (c .refusal))
+-- ---- the region that is left keeps clear of the source, ring by ring
 
-unfoldable pub piece-walked : Float → Float → RegionPieces → Walk → RegionPieces
-piece-walked d tolerance s w =
-    cond (w .lost) (pieces-refused s (Splits d))
-    (cond (lt zero-float (signed-area (w .points) (w .count)))
-    (outer-piece d tolerance s w (check-ring 128 (s .place) (w .points) (w .count)))
-    (hole-piece d tolerance s w (check-ring 32 (s .place) (w .points) (w .count))))
-
-unfoldable pub piece-step : List Edge → PlanarPoint → Float → Float → ℕ → RegionPieces → RegionPieces
-piece-step f origin d tolerance first s =
-    cond (granted (s .refusal) && starts f (s .seen) first) (piece-walked d tolerance s (walk f d origin first (s .seen))) s
-
-unfoldable pub no-pieces : RegionPieces
-no-pieces = record { refusal = Granted; found = false; shape = no-region; place = 0; seen = replicate 128 false }
-
-unfoldable pub pieces : List Edge → PlanarPoint → Float → Float → RegionPieces
-pieces f origin d tolerance = rounds (piece-step f origin d tolerance) 128 no-pieces
-
--- ---- the result keeps clear of the source
-
-unfoldable pub clear-of : Float → Region → PlanarPoint → Bool
-clear-of least r p = is-inside (region-contains r p) && le least (distance-to-boundary r p)
-
-unfoldable pub clear-step : Float → Region → List Float → ℕ → Bool → Bool
-clear-step least r qs k s = s && clear-of least r (vertex-at qs k)
-
-unfoldable pub ring-clear : Float → Region → List Float → ℕ → Bool
-ring-clear least r qs m = rounds (clear-step least r qs) m true
+unfoldable pub clear-of-region : Float → Region → PlanarPoint → Bool
+clear-of-region least r p = is-inside (region-contains r p) && le least (distance-to-boundary r p)
 
 unfoldable pub rings-clear-step : Float → Region → Region → ℕ → Bool → Bool
-rings-clear-step least r q k s = s && ring-clear least r (ring-points q k) (ring-count q k)
+rings-clear-step least r q k s = s && every-vertex (clear-of-region least r) (ring-points q k) (ring-count q k)
 
-unfoldable pub keeps-clear : Float → Region → Region → Bool
-keeps-clear least r q = rounds (rings-clear-step least r q) (q .holes + 1) true
+unfoldable pub region-keeps-clear : Float → Region → Region → Bool
+region-keeps-clear least r q = rounds (rings-clear-step least r q) (q .holes + 1) true
 
 unfoldable pub crosses-ring-step : Region → List Float → ℕ → ℕ → Bool → Bool
 crosses-ring-step r qs m k s = s || rings-meet qs m (ring-points r k) (ring-count r k)
@@ -108,36 +88,41 @@ crosses-ring r qs m = rounds (crosses-ring-step r qs m) (r .holes + 1) false
 unfoldable pub crosses-step : Region → Region → ℕ → Bool → Bool
 crosses-step r q k s = s || crosses-ring r (ring-points q k) (ring-count q k)
 
+-- some ring of the region q meets some ring of the source r
 unfoldable pub crosses : Region → Region → Bool
 crosses r q = rounds (crosses-step r q) (q .holes + 1) false
 
+unfoldable pub inset-clear : Region → Float → Float → Region → NewRegion
+inset-clear r d tolerance q =
+    cond (region-keeps-clear (Number.sub d tolerance) r q && not (crosses r q)) (record { refusal = Granted; shape = q }) (region-refused (Splits d))
+
+-- the new region's own questions, 11 and 12
+unfoldable pub inset-checked : Region → Float → Float → Region → Refusal → NewRegion
+inset-checked r d tolerance q u = cond (granted u) (inset-clear r d tolerance q) (region-refused (region-failure d u))
+
+unfoldable pub inset-found : Region → Float → Float → RegionPieces → NewRegion
+inset-found r d tolerance p =
+    cond (granted (p .refusal))
+    (cond (p .found) (inset-checked r d tolerance (p .shape) (check-region (p .shape))) (region-refused (Collapses d)))
+    (region-refused (p .refusal))
+
 -- ---- inset
 
-unfoldable pub offset-refused : Refusal → Sweep → RegionOffset
-offset-refused r s = record { refusal = r; shape = no-region; collapses = s .collapses; divides = s .divides; joins = s .joins }
+unfoldable pub inset-finished : Region → Float → Float → List Edge → NewRegion
+inset-finished r d tolerance f = inset-found r d tolerance (region-pieces f (vertex-at (r .outer .points) 0) d tolerance)
 
-unfoldable pub offset-granted : Region → Sweep → RegionOffset
-offset-granted q s = record { refusal = Granted; shape = q; collapses = s .collapses; divides = s .divides; joins = s .joins }
+unfoldable pub inset-swept : Region → Float → Sweep → NewRegion
+inset-swept r d s =
+    cond (granted (s .refusal)) (inset-finished r d (offset-tolerance d (region-extent r)) (s .edges)) (region-refused (s .refusal))
 
-unfoldable pub offset-clear : Region → Float → Float → Sweep → Region → RegionOffset
-offset-clear r d tolerance s q =
-    cond (keeps-clear (Number.sub d tolerance) r q && not (crosses r q)) (offset-granted q s) (offset-refused (Splits d) s)
+-- an answer and the events that the sweep completed
+unfoldable pub region-counted : NewRegion → Sweep → RegionOffset
+region-counted a s =
+    record { refusal = a .refusal; shape = a .shape; collapses = s .collapses; divides = s .divides; joins = s .joins }
 
-unfoldable pub offset-region : Region → Float → Float → Sweep → Region → Refusal → RegionOffset
-offset-region r d tolerance s q u = cond (granted u) (offset-clear r d tolerance s q) (offset-refused (region-failure d u) s)
-
-unfoldable pub offset-found : Region → Float → Float → Sweep → RegionPieces → RegionOffset
-offset-found r d tolerance s p =
-    cond (granted (p .refusal))
-    (cond (p .found) (offset-region r d tolerance s (p .shape) (check-region (p .shape))) (offset-refused (Collapses d) s))
-    (offset-refused (p .refusal) s)
-
-unfoldable pub offset-pieces : Region → Float → Float → Sweep → RegionOffset
-offset-pieces r d tolerance s = offset-found r d tolerance s (pieces (s .edges) (vertex-at (r .outer .points) 0) d tolerance)
-
-unfoldable pub offset-swept : Region → Float → Sweep → RegionOffset
-offset-swept r d s =
-    cond (granted (s .refusal)) (offset-pieces r d (offset-tolerance d (region-extent r)) s) (offset-refused (s .refusal) s)
+-- an answer without a sweep
+unfoldable pub region-plain : Refusal → Region → RegionOffset
+region-plain u r = record { refusal = u; shape = r; collapses = 0; divides = 0; joins = 0 }
 
 -- the front's work for a region: the outer ring forwards, the holes backwards
 unfoldable pub load-hole-step : Region → PlanarPoint → Float → ℕ → Loaded → Loaded
@@ -147,20 +132,21 @@ unfoldable pub load-region : Region → PlanarPoint → Float → Loaded
 load-region r origin d =
     rounds (load-hole-step r origin d) (r .holes) (load-ring (r .outer .points) (r .outer .count) false origin d loaded-nothing)
 
-unfoldable pub sweep : Region → Float → Sweep
-sweep r d = offset-rings d (load-region r (vertex-at (r .outer .points) 0) d)
+unfoldable pub region-sweep : Region → Float → Sweep
+region-sweep r d = offset-rings d (load-region r (vertex-at (r .outer .points) 0) d)
 
-unfoldable pub offset-plain : Refusal → Region → RegionOffset
-offset-plain u r = record { refusal = u; shape = r; collapses = 0; divides = 0; joins = 0 }
+unfoldable pub inset-from : Region → Float → Sweep → RegionOffset
+inset-from r d s = region-counted (inset-swept r d s) s
 
+-- an inset by 0 or −0 gives the source itself
 unfoldable pub inset-by : Region → Float → Refusal → RegionOffset
 inset-by r d u =
-    cond (granted u) (cond (eq d zero-float) (offset-plain Granted r) (offset-swept r d (sweep r d))) (offset-plain u no-region)
+    cond (granted u) (cond (eq d zero-float) (region-plain Granted r) (inset-from r d (region-sweep r d))) (region-plain u no-region)
 
 unfoldable pub region-inset : Region → Float → RegionOffset
-region-inset r d = cond (proper-region r) (inset-by r d (check-distance d)) (offset-plain Shape no-region)
+region-inset r d = cond (proper-region r) (inset-by r d (check-distance d)) (region-plain Shape no-region)
 
 -- opens every definition above, for a proof that computes with all of them
 unfoldable pub open-insets : Unit {0}
-unfolding pieces-refused pieces-skip pieces-outer pieces-hole piece-refused outer-granted outer-piece hole-granted hole-piece piece-walked piece-step no-pieces pieces clear-of clear-step ring-clear rings-clear-step keeps-clear crosses-ring-step crosses-ring crosses-step crosses offset-refused offset-granted offset-clear offset-region offset-found offset-pieces offset-swept load-hole-step load-region sweep offset-plain inset-by region-inset
+unfolding region-pieces-refused is-outer with-outer-piece with-hole-piece with-region-piece visit-region-piece region-pieces-refusal region-pieces clear-of-region rings-clear-step region-keeps-clear crosses-ring-step crosses-ring crosses-step crosses inset-clear inset-checked inset-found inset-finished inset-swept region-counted region-plain load-hole-step load-region region-sweep inset-from inset-by region-inset
 open-insets = tt

@@ -2,6 +2,7 @@
 use Prim.Native.Nat.{ℕ, zero, suc, _+_, _*_}
 use mathlib.Core.Bool.{Bool, cond}
 use mathlib.Core.List.{List}
+use lib.Dec.{ltb}
 use lib.ListN.{getD, set, replicate, drop}
 use lib.Ieee.{Float, lt}
 use Rattle.region.specs.declared.Region.{Region}
@@ -42,10 +43,17 @@ ring-count r (suc k) = hole-count r k
 unfoldable pub with-outer : Region → Outline → Region
 with-outer r o = record { outer = o; points = r .points; counts = r .counts; holes = r .holes }
 
--- a hole more, of n vertices of ps, turned round if `back`
-unfoldable pub with-hole : Region → List Float → ℕ → Bool → Region
-with-hole r ps n back =
+-- a hole more, of n vertices of ps, turned round if `back`, in the place after the others
+unfoldable pub store-hole : Region → List Float → ℕ → Bool → Region
+store-hole r ps n back =
     record { outer = r .outer; points = stored ps n back (32 * r .holes) (r .points); counts = set (r .counts) (r .holes) n; holes = r .holes + 1 }
+
+-- a hole past the eighth is counted and not stored
+unfoldable pub count-hole : Region → Region
+count-hole r = record { outer = r .outer; points = r .points; counts = r .counts; holes = r .holes + 1 }
+
+unfoldable pub with-hole : Region → List Float → ℕ → Bool → Region
+with-hole r ps n back = cond (ltb (r .holes) 8) (store-hole r ps n back) (count-hole r)
 
 -- ---- where a point lies, and the nearest point
 
@@ -100,5 +108,5 @@ region-extent r = rounds (extent-step r) (r .holes) (extent (r .outer .points) (
 
 -- opens every definition above, for a proof that computes with all of them
 unfoldable pub open-regions : Unit {0}
-unfolding no-region hole-points hole-count ring-points ring-count with-outer with-hole in-hole while-inside contains-step region-contains closer closest-step closest-boundary-point distance-to-boundary area-step area perimeter-step perimeter extent-step region-extent
+unfolding no-region hole-points hole-count ring-points ring-count with-outer store-hole count-hole with-hole in-hole while-inside contains-step region-contains closer closest-step closest-boundary-point distance-to-boundary area-step area perimeter-step perimeter extent-step region-extent
 open-regions = tt

@@ -12,7 +12,7 @@ use Rattle.math.specs.Number.{add, div, zero-float, two, abs, fmin, fmax, infin
 use Rattle.plane.specs.Plane.{sub, cross}
 use Rattle.plane.specs.Points.{length-of}
 use Rattle.loops.specs.Loop.{rounds}
-use Rattle.math.specs.Hypot.{hypot}
+use Rattle.hypotenuse.specs.Hypot.{hypot}
 
 -- ---- vertices and edges
 

@@ -1,7 +1,7 @@
 -- A collapse and a split on a tidied front keep the rings, and pay for themselves.
 use mathlib.Core.Path.{_≡_, refl, sym, ap, _∙_, subst}
 use mathlib.Core.Logic.{_≢_}
-use mathlib.Core.Bool.{Bool, true, false, cond, true≢false}
+use mathlib.Core.Bool.{Bool, true, false, cond}
 use mathlib.Core.List.{List}
 use Prim.Native.Nat.{ℕ, suc, _+_, _<_}
 use native.Mathlib.Omega.{arith}
@@ -10,10 +10,11 @@ use lib.Ieee.{Float}
 use Rattle.plane.specs.declared.PlanarPoint.{PlanarPoint}
 use Rattle.front.specs.declared.Edge.{Edge}
 use Rattle.front.specs.declared.Vertex.{Vertex}
-use Rattle.front.specs.declared.Vertex.the-variants.{NoVertex, Moving}
-use Rattle.front.specs.Edges.{edge, set-start, remove, vertex, moved, lost, anchor-at, anchor, then-remove, collapse}
+use Rattle.front.specs.declared.Vertex.the-variants.{Moving}
+use Rattle.front.specs.Edges.{edge, set-start, remove, vertex, altered, anchor-at, anchor, then-remove, collapse}
 use Rattle.front.specs.Splitting.{free-step, free, one-ring, split-linked}
 use Rattle.front.specs.Demand.{Links, bit, links}
+use Rattle.front.specs.Velocity.{Moves}
 use Rattle.front.proofs.Demand.Links
 use Rattle.front.proofs.Demand.Steps
 use Rattle.front.proofs.Demand.Links.{Out, Met, RingsOf, live-next, live-prev, prev-next, Same, out-after}
@@ -25,23 +26,28 @@ use Rattle.front.proofs.Demand.Tidying.{Tidied}
 
 -- ---- a collapse
 
-collapse-at : (f : List Edge) (events bound x s : ℕ) (t : Float) → Tidied f events bound → links f .live x ≡ 1 → (v : Vertex)
-    → (then-remove x (anchor-at f s t v)) .lost ≡ false → Kept ((then-remove x (anchor-at f s t v)) .edges) (suc events) bound
-unfolding then-remove anchor-at moved lost
-collapse-at f events bound x s t k a NoVertex = λ q. absurd (true≢false q)
-collapse-at f events bound x s t k a (Moving p v) = λ q.
+collapse-at : (f : List Edge) (at : Float) (events bound x s : ℕ) (t : Float) → Tidied f at events bound → links f .live x ≡ 1 → (p v : PlanarPoint)
+    → ((then-remove x (anchor-at f s t (Moving p v))) .stalled ≡ false) × Kept ((then-remove x (anchor-at f s t (Moving p v))) .edges) (suc events) bound
+unfolding then-remove anchor-at altered
+collapse-at f at events bound x s t k a p v =
     let g : List Edge = set-start f s p t in
     let z : Same (links f) (links g) = start-same f (k .kept .size) s p t in
-    let u : Out (links g) (links (remove g x)) x = out-of g events bound x (starts f events bound s p t (k .kept)) (z .lives x ∙ a) in
-    record {
-      held = Steps.collapse 128 (links f) (links (remove g x)) events bound x (k .kept .held) (k .clean) a (out-after (links f) (links g) (links (remove g x)) x z u);
-      size = remove-length g x (start-length f s p t (k .kept .size));
-    }
+    let u : Out (links g) (links (remove g x)) x = out-of g events bound x (starts f events bound s p t (k .kept)) (z .lives x ∙ a) in (
+      refl,
+      record {
+        held = Steps.collapse 128 (links f) (links (remove g x)) events bound x (k .kept .held) (k .clean) a (out-after (links f) (links g) (links (remove g x)) x z u);
+        size = remove-length g x (start-length f s p t (k .kept .size));
+      },
+    )
 
-pub collapse-law : (f : List Edge) (events bound x : ℕ) (t : Float) → Tidied f events bound → links f .live x ≡ 1
-    → (collapse f x t) .lost ≡ false → Kept ((collapse f x t) .edges) (suc events) bound
+pub collapse-law : (f : List Edge) (at : Float) (events bound x : ℕ) (t : Float) → Tidied f at events bound → Moves f → links f .live x ≡ 1
+    → ((collapse f x t) .stalled ≡ false) × Kept ((collapse f x t) .edges) (suc events) bound
 unfolding collapse anchor
-collapse-law f events bound x t k a = collapse-at f events bound x ((edge f x) .next) t k a (vertex f ((edge f x) .next) t)
+collapse-law f at events bound x t k moves a =
+    let n : ℕ = (edge f x) .next in
+    let m : (p : PlanarPoint) × (v : PlanarPoint) × (vertex f n t ≡ Moving p v) = moves n (live-next (links f) (k .kept .held .rs) (k .kept .held .rings) x a) t in
+    subst (λ (v : Vertex). ((then-remove x (anchor-at f n t v)) .stalled ≡ false) × Kept ((then-remove x (anchor-at f n t v)) .edges) (suc events) bound) (sym (m .2))
+    (collapse-at f at events bound x n t k a (m .0) (m .1))
 
 -- ---- a split
 
@@ -73,9 +79,9 @@ Parts events bound false g = Kept g events (bound + 3)
 live-apart : (f : List Edge) (x s : ℕ) → links f .live x ≡ 1 → links f .live s ≡ 0 → x ≢ s
 live-apart f x s a z q = omega (arith, ap (links f .live) q)
 
-pub split-law : (f : List Edge) (events bound v e s : ℕ) (p : PlanarPoint) (t : Float) → Tidied f events bound → Hits f v e → s < 128 → links f .live s ≡ 0
+pub split-law : (f : List Edge) (at : Float) (events bound v e s : ℕ) (p : PlanarPoint) (t : Float) → Tidied f at events bound → Hits f v e → s < 128 → links f .live s ≡ 0
     → Parts events bound (one-ring f v e) (split-linked f v e s ((edge f v) .previous) (edge f e) p t)
-split-law f events bound v e s p t k w h z =
+split-law f at events bound v e s p t k w h z =
     subst (λ (b : Bool). Parts events bound b g) (sym (one-ring-same f events bound v e (k .kept) (w .vertex) (w .other)))
     (sized (Links.one-ring 128 (links f) v e)
     (Steps.split 128 (links f) (links g) events bound v e s (k .kept .held)

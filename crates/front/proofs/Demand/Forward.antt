@@ -2,13 +2,13 @@
 use lib.Ieee
 use mathlib.Core.Path.{_≡_, refl, sym, ap, _∙_, subst}
 use mathlib.Core.Logic.{_≢_}
-use mathlib.Core.Bool.{Bool, true, false, cond, _&&_, true≢false, false≢true}
-use Prim.Native.Nat.{ℕ, zero, suc, _+_, _-_, _*_, _^_, _<_}
+use mathlib.Core.Bool.{Bool, true, false, cond, _&&_, _||_, true≢false, false≢true}
+use Prim.Native.Nat.{ℕ, zero, suc, _+_, _-_, _*_, _^_, _≤_, _<_}
 use native.Mathlib.Omega.{arith}
 use lib.Pow.{pow-pos}
 use lib.Dec.{ltb, eqb}
 use lib.IntN.{ℤ, pos, negsuc}
-use borrow.Author.Tests.{ltb-true, ltb-false, ne-eqb}
+use borrow.Author.Tests.{ltb-true, ltb-false, lt-ltb, eq-eqb, ne-eqb, eqb-false}
 use lib.Ieee.{Float, nan, inf, fin, Format, binary64, lt, le, eq, neg, up, down, odd, units, round}
 use Rattle.plane.specs.declared.PlanarPoint.{PlanarPoint}
 use Rattle.math.specs.Number
@@ -100,6 +100,45 @@ far-reached (fin s m e) (inf true) f h = absurd (true≢false h)
 far-reached (fin s m e) (inf false) f h = refl
 far-reached (fin s m e) (fin r n d) f h = refl
 
+-- an offset that is not past a finite distance lies before it
+pub sooner-than : (d t : Float) → finite d ≡ true → Onward t → le d t ≡ false → lt t d ≡ true
+unfolding le lt eq finite
+sooner-than nan t f h q = absurd (false≢true f)
+sooner-than (inf s) t f h q = absurd (false≢true f)
+sooner-than (fin s m e) nan f h q = absurd h
+sooner-than (fin s m e) (inf true) f h q = absurd (true≢false h)
+sooner-than (fin s m e) (inf false) f h q = absurd (true≢false q)
+sooner-than (fin s m e) (fin true n k) f h q = absurd (true≢false h)
+sooner-than (fin false m e) (fin false n k) f h q = go (ltb a b) refl (eqb a b) refl q
+  where
+    a : ℕ
+    a = m * up e * down k
+
+    b : ℕ
+    b = n * up k * down e
+
+    go : (x : Bool) → ltb a b ≡ x → (y : Bool) → eqb a b ≡ y → (x || (y && true)) ≡ false → ltb b a ≡ true
+    go true p y r z = absurd (true≢false z)
+    go false p true r z = absurd (true≢false z)
+    go false p false r z = lt-ltb b a (below a b (ltb-false a b p) (eqb-false a b r))
+      where
+        below : (a b : ℕ) → b ≤ a → a ≢ b → b < a
+        below a b l n = omega (arith, n)
+sooner-than (fin true m e) (fin false n k) f h q = absurd (none (ltb 0 (a + b)) refl q)
+  where
+    a : ℕ
+    a = m * up e * down k
+
+    b : ℕ
+    b = n * up k * down e
+
+    level : a + b ≡ 0 → (eqb a b && (false || eqb a 0)) ≡ true
+    level z = rw (eq-eqb a b (omega arith), eq-eqb a 0 (omega arith)) refl
+
+    none : (x : Bool) → ltb 0 (a + b) ≡ x → (x || (eqb a b && (false || eqb a 0))) ≡ false → ⊥
+    none true p z = true≢false z
+    none false p z = true≢false (sym (level (omega (arith, ltb-false 0 (a + b) p))) ∙ z)
+
 -- ---- a step that leads to a split
 
 pub add-nan : (x : Float) → add x nan ≡ nan
@@ -120,21 +159,21 @@ le-nan nan = refl
 le-nan (inf s) = refl
 le-nan (fin s m e) = refl
 
-abbrev lost-point : PlanarPoint
-lost-point = record { east = nan; north = nan }
+abbrev nan-point : PlanarPoint
+nan-point = record { east = nan; north = nan }
 
-moved-nan : (p v : PlanarPoint) → moved-by p v nan ≡ lost-point
+moved-nan : (p v : PlanarPoint) → moved-by p v nan ≡ nan-point
 unfolding moved-by lib.Ieee.mul
 moved-nan p v = λ i. record { east = add-nan (p .east) i; north = add-nan (p .north) i }
 
-dot-nan : (u : PlanarPoint) → dot u lost-point ≡ nan
+dot-nan : (u : PlanarPoint) → dot u nan-point ≡ nan
 unfolding dot lib.Ieee.add
 dot-nan u = ap (λ (x : Float). add x (mul (u .north) nan)) (mul-nan (u .east))
 
 -- a vertex that is nowhere hits nothing
-missed : (u from to : PlanarPoint) → hit-within u lost-point from to ≡ false
+missed : (u from to : PlanarPoint) → hit-within u nan-point from to ≡ false
 unfolding hit-within sub lib.Ieee.sub lib.Ieee.add
-missed u from to = ap (λ (b : Bool). b && le (neg on-edge) (dot u (sub to lost-point))) (ap (le (neg on-edge)) (dot-nan u) ∙ le-nan (neg on-edge))
+missed u from to = ap (λ (b : Bool). b && le (neg on-edge) (dot u (sub to nan-point))) (ap (le (neg on-edge)) (dot-nan u) ∙ le-nan (neg on-edge))
 
 pub up-pos : (e : ℤ) → 0 < up e
 up-pos (pos k) = pow-pos k

@@ -1,6 +1,6 @@
--- Lines are only ever copied: what holds of every line of a front of 128 edges holds after each step.
+-- Lines are only ever copied: what holds of the line of every live edge of a front of 128 edges holds after each step.
 use mathlib.Core.Path.{_≡_, sym, _∙_, subst}
-use mathlib.Core.Bool.{Bool, true, false, cond, not, _&&_}
+use mathlib.Core.Bool.{Bool, true, false, cond, not, _&&_, false≢true}
 use mathlib.Core.List.{List}
 use Prim.Native.Nat.{ℕ, _<_}
 use native.Mathlib.Omega.{arith}
@@ -15,30 +15,35 @@ use Rattle.front.specs.declared.Vertex.the-variants.{NoVertex, Moving}
 use Rattle.front.specs.declared.Tidy.{Tidy}
 use Rattle.front.specs.declared.Tidy.the-variants.{Settled, SmallRing, Straight, Spike, Empty}
 use Rattle.front.specs.declared.Front.{Front}
-use Rattle.front.specs.Edges.{edge, with-next, with-previous, with-start, dead, set-next, set-previous, set-start, kill, unlinked, remove, vertex, moved, lost, anchor-at, anchor, then-remove, collapse}
+use Rattle.front.specs.Edges.{edge, with-next, with-previous, with-start, dead, set-next, set-previous, set-start, kill, unlinked, remove, vertex, altered, stalled, anchor-at, anchor, then-remove, collapse}
 use Rattle.front.specs.Tidying.{Drop, drop-on, drop-step, drop-ring, drop-straight, meeting-or, drop-both, spike-to, spike-from, drop-spike, find-tidy, tidy-by, tidy-once, tidy-step, tidy}
 use Rattle.front.specs.Lines.{meeting}
 use Rattle.front.specs.Splitting.{copy-of, cut, split-linked}
 use Rattle.front.proofs.Demand.Occ.{by-cases}
-use Rattle.front.proofs.Demand.Views.{edge-here, edge-there, edge-out, set-length}
+use Rattle.front.proofs.EdgeLaws.{edge-out}
+use Rattle.front.proofs.Demand.Views.{edge-here, edge-there, set-length}
 use Rattle.loops.proofs.Laws.{rounds-keep}
 
 module _ (P : Line → Type 0) where
+  -- an edge is dead, or has such a line
+  abbrev pub Fair : Edge → Type 0
+  Fair e = e .alive ≡ true → P (e .line)
+
   pub record Lined (f : List Edge) : Type 0 where
-    pub lines : (i : ℕ) → P ((edge f i) .line)
+    pub lines : (i : ℕ) → Fair (edge f i)
     pub size : length f ≡ 128
 
-  pub put : (f : List Edge) (s : ℕ) (e : Edge) → P (e .line) → Lined f → Lined (set f s e)
+  pub put : (f : List Edge) (s : ℕ) (e : Edge) → Fair e → Lined f → Lined (set f s e)
   put f s e p l = record {
     lines = λ i. by-cases i s
-        (λ q. subst (λ (k : ℕ). P ((edge (set f s e) k) .line)) (sym q) (inside (decLt s 128)))
-        (λ d. subst (λ (x : Edge). P (x .line)) (sym (edge-there f s i e d)) (l .lines i));
+        (λ q. subst (λ (k : ℕ). Fair (edge (set f s e) k)) (sym q) (inside (decLt s 128)))
+        (λ d. subst Fair (sym (edge-there f s i e d)) (l .lines i));
     size = set-length f s e (l .size);
   }
     where
-      inside : Dec (s < 128) → P ((edge (set f s e) s) .line)
-      inside (yes h) = subst (λ (x : Edge). P (x .line)) (sym (edge-here f s e (l .size) h)) p
-      inside (no h) = subst (λ (x : Edge). P (x .line)) (edge-out f s (omega arith) ∙ sym (edge-out (set f s e) s (omega arith))) (l .lines s)
+      inside : Dec (s < 128) → Fair (edge (set f s e) s)
+      inside (yes h) = subst Fair (sym (edge-here f s e (l .size) h)) p
+      inside (no h) = subst Fair (edge-out f s (omega arith) ∙ sym (edge-out (set f s e) s (omega arith))) (l .lines s)
 
   next-lined : (f : List Edge) (s v : ℕ) → Lined f → Lined (set-next f s v)
   unfolding set-next with-next
@@ -54,7 +59,7 @@ module _ (P : Line → Type 0) where
 
   kill-lined : (f : List Edge) (s : ℕ) → Lined f → Lined (kill f s)
   unfolding kill dead
-  kill-lined f s l = put f s (dead (edge f s)) (l .lines s) l
+  kill-lined f s l = put f s (dead (edge f s)) (λ q. absurd (false≢true q)) l
 
   remove-lined : (f : List Edge) (x : ℕ) → Lined f → Lined (remove f x)
   unfolding remove unlinked
@@ -64,15 +69,15 @@ module _ (P : Line → Type 0) where
       kill-lined (set-previous (set-next f p n) n p) x (previous-lined (set-next f p n) n p (next-lined f p n l))
 
   anchor-lined : (f : List Edge) (s : ℕ) (t : Float) (v : Vertex) → Lined f → Lined ((anchor-at f s t v) .edges)
-  unfolding anchor-at moved lost
+  unfolding anchor-at altered stalled
   anchor-lined f s t NoVertex l = l
   anchor-lined f s t (Moving p v) l = start-lined f s p t l
 
   then-lined : (x : ℕ) (s : Front) → Lined (s .edges) → Lined ((then-remove x s) .edges)
-  unfolding then-remove moved
-  then-lined x s l = go (s .lost)
+  unfolding then-remove altered
+  then-lined x s l = go (s .stalled)
     where
-      go : (b : Bool) → Lined ((cond b s (moved (remove (s .edges) x))) .edges)
+      go : (b : Bool) → Lined ((cond b s (altered (remove (s .edges) x))) .edges)
       go true = l
       go false = remove-lined (s .edges) x l
 
@@ -97,21 +102,21 @@ module _ (P : Line → Type 0) where
   drop-lined f x l = rounds-keep (drop-step x) (λ i s. Lined (s .edges)) (record { edges = f; at = x; closed = false }) l (drop-turn x) 128
 
   both-lined : (f : List Edge) (x n after : ℕ) (p : PlanarPoint) (t : Float) → Lined f → Lined ((drop-both f x n after p t) .edges)
-  unfolding drop-both moved
+  unfolding drop-both altered
   both-lined f x n after p t l = start-lined (remove (remove f n) x) after p t (remove-lined (remove f n) x (remove-lined f n l))
 
   to-lined : (f : List Edge) (x before n after : ℕ) (t : Float) (p : PlanarPoint) (v : Vertex) → Lined f → Lined ((spike-to f x before n after t p v) .edges)
-  unfolding spike-to lost
+  unfolding spike-to stalled
   to-lined f x before n after t p NoVertex l = l
   to-lined f x before n after t p (Moving q w) l = both-lined f x n after (meeting-or p q (meeting ((edge f before) .line) ((edge f after) .line) t)) t l
 
   from-lined : (f : List Edge) (x before n after : ℕ) (t : Float) (v : Vertex) → Lined f → Lined ((spike-from f x before n after t v) .edges)
-  unfolding spike-from lost
+  unfolding spike-from stalled
   from-lined f x before n after t NoVertex l = l
   from-lined f x before n after t (Moving p v) l = to-lined f x before n after t p (vertex f after t) l
 
   by-lined : (f : List Edge) (t : Float) (r : Tidy) → Lined f → Lined ((tidy-by f t r) .edges)
-  unfolding tidy-by moved drop-straight drop-spike anchor
+  unfolding tidy-by altered drop-straight drop-spike anchor
   by-lined f t Settled l = l
   by-lined f t (SmallRing x) l = drop-lined f x l
   by-lined f t (Straight x) l =
@@ -125,21 +130,22 @@ module _ (P : Line → Type 0) where
 
   turn-lined : (t : Float) (k : ℕ) (s : Front) → Lined (s .edges) → Lined ((tidy-step t k s) .edges)
   unfolding tidy-step tidy-once
-  turn-lined t k s l = go (s .changed && not (s .lost))
+  turn-lined t k s l = go (s .changed && not (s .stalled))
     where
       go : (b : Bool) → Lined ((cond b (tidy-by (s .edges) t (find-tidy (s .edges) t)) s) .edges)
       go true = by-lined (s .edges) t (find-tidy (s .edges) t) l
       go false = l
 
   pub tidy-lined : (f : List Edge) (t : Float) → Lined f → Lined ((tidy f t) .edges)
-  unfolding tidy moved
-  tidy-lined f t l = rounds-keep (tidy-step t) (λ i s. Lined (s .edges)) (moved f) l (turn-lined t) 129
+  unfolding tidy altered
+  tidy-lined f t l = rounds-keep (tidy-step t) (λ i s. Lined (s .edges)) (altered f) l (turn-lined t) 129
 
   -- ---- a split
 
-  pub split-lined : (f : List Edge) (v e s : ℕ) (p : PlanarPoint) (t : Float) → Lined f → Lined (split-linked f v e s ((edge f v) .previous) (edge f e) p t)
+  pub split-lined : (f : List Edge) (v e s : ℕ) (p : PlanarPoint) (t : Float) → (edge f e) .alive ≡ true → Lined f
+      → Lined (split-linked f v e s ((edge f v) .previous) (edge f e) p t)
   unfolding split-linked cut copy-of
-  split-lined f v e s p t l =
+  split-lined f v e s p t a l =
       let before : ℕ = (edge f v) .previous in
       let after : ℕ = (edge f e) .next in
       let copy : Edge = copy-of (edge f e) before p t in
@@ -148,4 +154,4 @@ module _ (P : Line → Type 0) where
       let f₂ : List Edge = set-previous f₁ after s in
       let f₃ : List Edge = set-next f₂ e v in
       let f₄ : List Edge = set-previous f₃ v e in
-      start-lined f₄ v p t (previous-lined f₃ v e (next-lined f₂ e v (previous-lined f₁ after s (next-lined f₀ before s (put f s copy (l .lines e) l)))))
+      start-lined f₄ v p t (previous-lined f₃ v e (next-lined f₂ e v (previous-lined f₁ after s (next-lined f₀ before s (put f s copy (λ q. l .lines e a) l)))))

@@ -1,7 +1,7 @@
 -- Loading puts each ring into the slots after those in use.
 use mathlib.Core.Path.{_≡_, refl, sym, ap, _∙_, subst}
-use mathlib.Core.Logic.{_≢_}
-use mathlib.Core.Bool.{Bool, true, false, cond, false≢true}
+use mathlib.Core.Logic.{_≢_, _⊎_, inl, inr}
+use mathlib.Core.Bool.{Bool, true, false, cond, true≢false, false≢true}
 use mathlib.Core.List.{List, [], _∷_}
 use Prim.Native.Nat.{ℕ, suc, _+_, _-_, _*_, _≤_, _<_}
 use native.Mathlib.Omega.{arith}
@@ -23,13 +23,14 @@ use Rattle.ring.specs.Ring.{following}
 use Rattle.loops.specs.Loop.{rounds}
 use Rattle.front.specs.Edges.{unused, blank, edge}
 use Rattle.front.specs.Lines.{through}
-use Rattle.front.specs.Loading.{no-front, loaded-nothing, load-refused, load-vertex, loaded-edge, load-line, load-edge, load-step, load-ring}
+use Rattle.front.specs.Loading.{no-front, loaded-nothing, load-refused, load-vertex, loaded-edge, load-line, load-edge, load-step, ring-begun, load-ring}
 use Rattle.front.specs.Demand.{bit, links}
 use Rattle.front.proofs.Demand.Occ.{by-cases}
 use Rattle.front.proofs.Demand.Rings.{Ring, spare, occs-nil}
 use Rattle.front.proofs.Demand.Links.{RingsOf}
 use Rattle.front.proofs.Demand.Load.{RingAt, last-ring, last-spare, add-ring}
-use Rattle.front.proofs.Demand.Views.{edge-in, edge-out, edge-here, edge-there}
+use Rattle.front.proofs.EdgeLaws.{edge-in, edge-out}
+use Rattle.front.proofs.Demand.Views.{edge-here, edge-there}
 use Rattle.loops.proofs.Laws.{rounds-keep}
 use Rattle.front.proofs.Demand.Lines.{Lined, put}
 
@@ -79,6 +80,8 @@ module _ (P : Line → Type 0) where
     pub rings : RingsOf (links (s .edges)) rs
     pub rest : (x : ℕ) → n ≤ x → links (s .edges) .live x ≡ 0
     pub used : s .used ≡ n
+    pub count : s .rings ≡ r
+    pub fits : n ≤ 128
     pub spares : spare rs + 2 * r ≡ n
     pub lined : Lined P (s .edges)
 
@@ -94,6 +97,8 @@ module _ (P : Line → Type 0) where
     record Part (i : ℕ) (s : Loaded) : Type 0 where
       before : granted (s₀ .refusal) ≡ true
       used : s .used ≡ first + i
+      count : s .rings ≡ s₀ .rings + 1
+      fits : first + i ≤ 128
       lined : Lined P (s .edges)
       old : (x : ℕ) → x < first → edge (s .edges) x ≡ edge (s₀ .edges) x
       new : (x : ℕ) → first ≤ x → x < first + i → Slot (s .edges) first c x
@@ -120,7 +125,7 @@ module _ (P : Line → Type 0) where
         full : Loaded
         full = load-refused s (Slots (s .used + (c - k)))
 
-        go : (b : Bool) → ltb (s .used) 128 ≡ b → Part-is (suc k) (cond b (record { edges = f; used = s .used + 1; refusal = Granted }) full)
+        go : (b : Bool) → ltb (s .used) 128 ≡ b → Part-is (suc k) (cond b (record { edges = f; used = s .used + 1; rings = s .rings; refusal = Granted }) full)
         go false q h z = refused-part (suc k) s (Slots (s .used + (c - k))) refl h z
         go true q h z =
             let w : Part k s = p (omega arith) g in
@@ -129,7 +134,9 @@ module _ (P : Line → Type 0) where
             record {
               before = w .before;
               used = omega (arith, w .used);
-              lined = put P (s .edges) (s .used) e (good (omega arith) l refl) (w .lined);
+              count = w .count;
+              fits = omega (arith, w .used, ltb-true (s .used) 128 q);
+              lined = put P (s .edges) (s .used) e (λ z. good (omega arith) l refl) (w .lined);
               old = λ x i. there x (λ n. omega arith) ∙ w .old x i;
               new = λ x i j. by-cases x (first + k)
                   (λ n. subst (λ (y : ℕ). Slot f first c y) (sym n) (slot-of f first c k l a (omega arith) here))
@@ -153,15 +160,17 @@ module _ (P : Line → Type 0) where
 
     -- a ring of three or more is loaded after the others
     pub load-law : (n r : ℕ) → 3 ≤ c → Load-is n r s₀ → Load-is (n + c) (suc r) (load-ring ps c back origin d s₀)
-    unfolding load-ring
-    load-law n r three h = go (rounds (load-step ps c back origin d first) c s₀) (rounds-keep (load-step ps c back origin d first) Part-is s₀ start step-part c)
+    unfolding load-ring ring-begun
+    load-law n r three h = go (rounds (load-step ps c back origin d first) c (ring-begun s₀)) (rounds-keep (load-step ps c back origin d first) Part-is (ring-begun s₀) start step-part c)
       where
-        start : Part-is 0 s₀
+        start : Part-is 0 (ring-begun s₀)
         start z g =
             let w : Rings-in n r s₀ = h g in
             record {
               before = g;
               used = omega arith;
+              count = refl;
+              fits = omega (arith, w .used, w .fits);
               lined = w .lined;
               old = λ x i. refl;
               new = λ x i j. absurd (omega arith);
@@ -183,6 +192,8 @@ module _ (P : Line → Type 0) where
                       (w .rest);
                   rest = λ x i. w .rest x (omega arith);
                   used = omega (arith, w .used);
+                  count = omega (arith, w .count, v .count);
+                  fits = omega (arith, w .fits);
                   spares = omega (arith, last-spare first c (v .rs) three, v .spares);
                   lined = w .lined;
                 }
@@ -196,35 +207,40 @@ module _ (P : Line → Type 0) where
       go (yes h) = edge-in (replicate 128 unused) i h ∙ getD-replicate 128 i unused blank h
       go (no h) = edge-out (replicate 128 unused) i (omega arith)
 
-  pub load-none : P (unused .line) → Load-is 0 0 loaded-nothing
+  pub load-none : Load-is 0 0 loaded-nothing
   unfolding loaded-nothing no-front
-  load-none p g = record {
+  load-none g = record {
     rs = [];
     rings = record { linked = tt; once = λ s. occs-nil s ∙ sym (dead s); bit = λ s. omega (arith, dead s) };
     rest = λ x i. dead x;
     used = refl;
+    count = refl;
+    fits = omega arith;
     spares = spare-none;
-    lined = record { lines = λ i. subst (λ (e : Edge). P (e .line)) (sym (nothing-edge i)) p; size = length-replicate 128 unused };
+    lined = record { lines = λ i a. absurd (false≢true (sym (ap (λ (e : Edge). e .alive) (nothing-edge i)) ∙ a)); size = length-replicate 128 unused };
   }
     where
       dead : (x : ℕ) → links no-front .live x ≡ 0
       dead x = ap (λ (e : Edge). bit (e .alive)) (nothing-edge x)
 
--- ---- no refusal of the loading is the one for want of an end
+-- ---- what loading may refuse with: a zero length, or the room
 
-line-other : (d : Float) (first c k : ℕ) (a : PlanarPoint) (s : Loaded) (x : Through) → number (s .refusal) ≢ 18 → number ((load-line d first c k a s x) .refusal) ≢ 18
-unfolding load-line load-refused number values
-line-other d first c k a s NoLine h = λ q. omega arith
-line-other d first c k a s (Along l) h = go (ltb (s .used) 128)
+abbrev pub Load-refusal : Refusal → Type 0
+Load-refusal r = granted r ≡ false → (number r ≡ 15) ⊎ (number r ≡ 16)
+
+line-refusal : (d : Float) (first c k : ℕ) (a : PlanarPoint) (s : Loaded) (x : Through) → Load-refusal ((load-line d first c k a s x) .refusal)
+unfolding load-line load-refused granted number values
+line-refusal d first c k a s NoLine = λ q. inr refl
+line-refusal d first c k a s (Along l) = go (ltb (s .used) 128)
   where
-    go : (b : Bool) → number ((cond b (record { edges = set (s .edges) (s .used) (loaded-edge l first c k a); used = s .used + 1; refusal = Granted }) (load-refused s (Slots (s .used + (c - k))))) .refusal) ≢ 18
-    go true = λ q. omega arith
-    go false = λ q. omega arith
+    go : (b : Bool) → Load-refusal ((cond b (record { edges = set (s .edges) (s .used) (loaded-edge l first c k a); used = s .used + 1; rings = s .rings; refusal = Granted }) (load-refused s (Slots (s .used + (c - k))))) .refusal)
+    go true = λ q. absurd (true≢false q)
+    go false = λ q. inl refl
 
-step-other : (ps : List Float) (c : ℕ) (back : Bool) (origin : PlanarPoint) (d : Float) (first k : ℕ) (s : Loaded) → number (s .refusal) ≢ 18
-    → number ((load-step ps c back origin d first k s) .refusal) ≢ 18
+step-refusal : (ps : List Float) (c : ℕ) (back : Bool) (origin : PlanarPoint) (d : Float) (first k : ℕ) (s : Loaded) → Load-refusal (s .refusal)
+    → Load-refusal ((load-step ps c back origin d first k s) .refusal)
 unfolding load-step load-edge
-step-other ps c back origin d first k s h = go (granted (s .refusal))
+step-refusal ps c back origin d first k s h = go (granted (s .refusal))
   where
     a : PlanarPoint
     a = load-vertex ps c back origin k
@@ -232,16 +248,16 @@ step-other ps c back origin d first k s h = go (granted (s .refusal))
     b : PlanarPoint
     b = load-vertex ps c back origin (following c k)
 
-    go : (o : Bool) → number ((cond o (load-line d first c k a s (through a b)) s) .refusal) ≢ 18
-    go true = line-other d first c k a s (through a b) h
+    go : (o : Bool) → Load-refusal ((cond o (load-line d first c k a s (through a b)) s) .refusal)
+    go true = line-refusal d first c k a s (through a b)
     go false = h
 
-pub load-other : (ps : List Float) (c : ℕ) (back : Bool) (origin : PlanarPoint) (d : Float) (s : Loaded) → number (s .refusal) ≢ 18
-    → number ((load-ring ps c back origin d s) .refusal) ≢ 18
-unfolding load-ring
-load-other ps c back origin d s h =
-    rounds-keep (load-step ps c back origin d (s .used)) (λ i r. number (r .refusal) ≢ 18) s h (step-other ps c back origin d (s .used)) c
+pub ring-refusal : (ps : List Float) (c : ℕ) (back : Bool) (origin : PlanarPoint) (d : Float) (s : Loaded) → Load-refusal (s .refusal)
+    → Load-refusal ((load-ring ps c back origin d s) .refusal)
+unfolding load-ring ring-begun
+ring-refusal ps c back origin d s h =
+    rounds-keep (load-step ps c back origin d (s .used)) (λ i r. Load-refusal (r .refusal)) (ring-begun s) h (step-refusal ps c back origin d (s .used)) c
 
-pub none-other : number (loaded-nothing .refusal) ≢ 18
-unfolding loaded-nothing number values
-none-other q = omega arith
+pub none-refusal : Load-refusal (loaded-nothing .refusal)
+unfolding loaded-nothing granted number values
+none-refusal q = absurd (true≢false q)

@@ -1,4 +1,4 @@
--- Where the lines' directions and normals are small, no edge shrinks infinitely fast.
+-- Where the directions and normals of the live edges are small, none of them shrinks infinitely fast.
 use lib.Ieee
 use mathlib.Core.Path.{_≡_, refl, subst}
 use mathlib.Core.Bool.{Bool, true, false, cond}
@@ -21,17 +21,24 @@ use Rattle.math.specs.Number
 use Rattle.math.specs.Number.{add, div, one}
 use Rattle.front.specs.Thresholds.{opposite}
 use Rattle.plane.specs.Plane.{sub, dot}
-use Rattle.front.specs.Edges.{unused, edge, vertex-by, vertex-of, vertex, length-to, length-from, edge-length}
-use Rattle.front.specs.Lines.{along as direction, normal, velocity-by, velocity}
+use Rattle.front.specs.Edges.{edge, vertex-by, vertex-of, vertex, length-to, length-from, edge-length}
+use Rattle.front.specs.Lines.{direction, normal, velocity-by, velocity}
+use Rattle.front.specs.Demand.{links}
+use Rattle.front.specs.Velocity.{Turned-left}
+use Rattle.front.proofs.Demand.Rings.{Ring}
+use Rattle.front.proofs.Demand.Links.{RingsOf, live-next, live-prev}
+use Rattle.front.proofs.Demand.Views.{alive-of}
 use Rattle.front.proofs.Demand.Lines.{Lined}
 use Rattle.front.proofs.Demand.Search.{Rates}
 use Rattle.front.proofs.Demand.Small.{Small, Least, wider, add-small, sub-small, mul-small, div-small, down-pos}
 
+-- the lines that loading makes: small, and the normal turned left from the direction
 pub record Bounded (l : Line) : Type 0 where
   pub u0 : Small 1 (l .u0)
   pub u1 : Small 1 (l .u1)
   pub n0 : Small 1 (l .n0)
   pub n1 : Small 1 (l .n1)
+  pub left : Turned-left l
 
 pub record SmallPoint (k : ℕ) (p : PlanarPoint) : Type 0 where
   pub east : Small k (p .east)
@@ -98,11 +105,14 @@ unfolding vertex-by
 by-small e t Nowhere h = tt
 by-small e t (There v) h = h
 
-module _ (f : List Edge) (l : Lined Bounded f) (t : Float) where
-  vertex-small : (x : ℕ) → Vertex-is (vertex f x t)
+module _ (f : List Edge) (l : Lined Bounded f) (rs : List Ring) (R : RingsOf (links f) rs) (t : Float) where
+  bounded : (x : ℕ) → links f .live x ≡ 1 → Bounded ((edge f x) .line)
+  bounded x a = l .lines x (alive-of ((edge f x) .alive) a)
+
+  vertex-small : (x : ℕ) → links f .live x ≡ 1 → Vertex-is (vertex f x t)
   unfolding vertex vertex-of
-  vertex-small x = by-small (edge f x) t (velocity ((edge f ((edge f x) .previous)) .line) ((edge f x) .line))
-      (velocity-small ((edge f ((edge f x) .previous)) .line) ((edge f x) .line) (l .lines ((edge f x) .previous)) (l .lines x))
+  vertex-small x a = by-small (edge f x) t (velocity ((edge f ((edge f x) .previous)) .line) ((edge f x) .line))
+      (velocity-small ((edge f ((edge f x) .previous)) .line) ((edge f x) .line) (bounded ((edge f x) .previous) (live-prev (links f) rs R x a)) (bounded x a))
 
   abbrev Length-is : Length → Type 0
   Length-is NoLength = Unit {0}
@@ -115,20 +125,15 @@ module _ (f : List Edge) (l : Lined Bounded f) (t : Float) where
       dot-small 1 43 (direction (e .line)) (sub w v) (omega arith) (record { east = b .u0; north = b .u1 })
       (record { east = sub-small 42 (w .east) (v .east) (omega arith) (k .east) (h .east); north = sub-small 42 (w .north) (v .north) (omega arith) (k .north) (h .north) })
 
-  from-small : (x : ℕ) (v : Vertex) → Vertex-is v → Length-is (length-from f (edge f x) t v)
+  from-small : (x : ℕ) → links f .live x ≡ 1 → (v : Vertex) → Vertex-is v → Length-is (length-from f (edge f x) t v)
   unfolding length-from
-  from-small x NoVertex h = tt
-  from-small x (Moving p v) h = to-small (edge f x) (l .lines x) p v h (vertex f ((edge f x) .next) t) (vertex-small ((edge f x) .next))
+  from-small x a NoVertex h = tt
+  from-small x a (Moving p v) h =
+      to-small (edge f x) (bounded x a) p v h (vertex f ((edge f x) .next) t) (vertex-small ((edge f x) .next) (live-next (links f) rs R x a))
 
-  length-small : (x : ℕ) → Length-is (edge-length f x t)
+  length-small : (x : ℕ) → links f .live x ≡ 1 → Length-is (edge-length f x t)
   unfolding edge-length
-  length-small x = from-small x (vertex f x t) (vertex-small x)
+  length-small x a = from-small x a (vertex f x t) (vertex-small x a)
 
   pub rates-bounded : Rates f t
-  rates-bounded x a rate q d = subst (Small 45) d (subst Length-is q (length-small x))
-
--- ---- the unused line
-
-pub unused-bounded : Bounded (unused .line)
-unfolding lib.Ieee.ofBits
-unused-bounded = record { u0 = omega arith; u1 = omega arith; n0 = omega arith; n1 = omega arith }
+  rates-bounded x live a rate q d = subst (Small 45) d (subst Length-is q (length-small x live))

@@ -1,5 +1,5 @@
--- The event search finds live edges only, at steps that go forward; where it finds none, its event lies infinitely far.
-use mathlib.Core.Path.{_≡_, refl, ap}
+-- Where every live vertex has a velocity, the event search meets none without, and finds live edges only, at steps that go forward.
+use mathlib.Core.Path.{_≡_, refl, sym, ap, _∙_, subst}
 use mathlib.Core.Logic.{_≢_}
 use mathlib.Core.Bool.{Bool, true, false, cond, not, _&&_, _||_, false≢true}
 use mathlib.Core.List.{List}
@@ -19,24 +19,22 @@ use Rattle.front.specs.declared.SoonestSplit.{SoonestSplit}
 use Rattle.front.specs.declared.SoonestSplit.the-variants.{NoSplit, SplitAfter}
 use Rattle.front.specs.declared.EventSearch.{EventSearch}
 use Rattle.front.specs.declared.Event.{Event}
-use Rattle.front.specs.declared.Event.the-variants.{Lost, Never, Collapse, Split}
+use Rattle.front.specs.declared.Event.the-variants.{Stalled, Never, Collapse, Split}
 use Rattle.math.specs.Number
 use Rattle.math.specs.Number.{one, add, mul, div, zero-float, fmax}
 use Rattle.front.specs.Thresholds.{tie}
 use Rattle.plane.specs.Plane.{dot, cross}
-use Rattle.front.specs.Edges.{edge, vertex, moved-by, edge-length}
-use Rattle.front.specs.Lines.{along as direction, normal}
-use Rattle.front.specs.NextEvent.{look-lost, look-split, look-collapse, sooner, late, hit-within, hit-to, hit-from, hit-then, hit-after, hit-closing, hit-at, candidate, hit-step, hits, look-turn, shrinking, look-length, look-vertex, look-at, look-step, look, choose, event-of, next-event}
+use Rattle.front.specs.Edges.{edge, vertex, moved-by, length-to, length-from, edge-length}
+use Rattle.front.specs.Lines.{direction, normal}
+use Rattle.front.specs.NextEvent.{look-split, look-collapse, sooner, late, hit-within, hit-to, hit-from, hit-then, hit-after, hit-closing, hit-at, candidate, hit-step, hits, look-turn, shrinking, look-length, look-vertex, look-at, look-step, look, choose, event-of, next-event}
 use Rattle.front.specs.Demand.{bit, links}
+use Rattle.front.specs.Velocity.{Moves}
 use Rattle.loops.proofs.Laws.{rounds-keep}
 use Rattle.front.proofs.Demand.Forward.{Forward, hit-forward, shrink-forward}
 use Rattle.front.proofs.Demand.Events.{Hits}
 
--- no edge shrinks infinitely fast
-abbrev pub Rates : List Edge → Float → Type 0
-Rates f t = (x : ℕ) (l rate : Float) → edge-length f x t ≡ Long l rate → rate ≢ inf true
-
-module _ (f : List Edge) (t : Float) (rates : Rates f t) where
+-- what is found: live edges, at steps that go forward; no event is found at a vertex without a velocity
+module _ (f : List Edge) where
   abbrev Gone : SoonestCollapse → Type 0
   Gone NoCollapse = Unit {0}
   Gone (CollapseAfter x s) = (links f .live x ≡ 1) × Forward s
@@ -45,54 +43,82 @@ module _ (f : List Edge) (t : Float) (rates : Rates f t) where
   Struck NoSplit = Unit {0}
   Struck (SplitAfter v e s) = Hits f v e × Forward s
 
+  abbrev pub Event-is : Event → Type 0
+  Event-is Stalled = ⊥
+  Event-is Never = Unit {0}
+  Event-is (Collapse x s) = (links f .live x ≡ 1) × Forward s
+  Event-is (Split v e s) = Hits f v e × Forward s
+
+-- no edge shrinks infinitely fast
+abbrev pub Rates : List Edge → Float → Type 0
+Rates f t = (x : ℕ) → links f .live x ≡ 1 → (l rate : Float) → edge-length f x t ≡ Long l rate → rate ≢ inf true
+
+-- from next to next, live edges only
+abbrev pub On : List Edge → Type 0
+On f = (x : ℕ) → links f .live x ≡ 1 → links f .live ((edge f x) .next) ≡ 1
+
+module _ (f : List Edge) (moves : Moves f) (on : On f) where
+  -- what holds of every vertex that moves, and of every length that there is
+  at-vertex : (Q : Vertex → Type 0) (x : ℕ) → links f .live x ≡ 1 → (at : Float) → ((p v : PlanarPoint) → Q (Moving p v)) → Q (vertex f x at)
+  at-vertex Q x a at h = let m : (p : PlanarPoint) × (v : PlanarPoint) × (vertex f x at ≡ Moving p v) = moves x a at in subst Q (sym (m .2)) (h (m .0) (m .1))
+
+  length-there : (x : ℕ) → links f .live x ≡ 1 → (t : Float) → (l : Float) × (rate : Float) × (edge-length f x t ≡ Long l rate)
+  unfolding edge-length length-from length-to
+  length-there x a t =
+      let m : (p : PlanarPoint) × (v : PlanarPoint) × (vertex f x t ≡ Moving p v) = moves x a t in
+      let n : (p : PlanarPoint) × (v : PlanarPoint) × (vertex f ((edge f x) .next) t ≡ Moving p v) = moves ((edge f x) .next) (on x a) t in
+      (_, _, ap (length-from f (edge f x) t) (m .2) ∙ ap (length-to (edge f x) (m .0) (m .1)) (n .2))
+
+module _ (f : List Edge) (t : Float) (rates : Rates f t) (moves : Moves f) (on : On f) where
   record Fine (s : EventSearch) : Type 0 where
-    gone : Gone (s .collapse)
-    struck : Struck (s .split)
+    gone : Gone f (s .collapse)
+    struck : Struck f (s .split)
+    moving : s .stalled ≡ false
 
   either : (b : Bool) (r s : EventSearch) → Fine r → Fine s → Fine (cond b r s)
   either true r s h k = h
   either false r s h k = k
 
-  lost-fine : (s : EventSearch) → Fine s → Fine (look-lost s)
-  unfolding look-lost
-  lost-fine s h = record { gone = h .gone; struck = h .struck }
-
   -- ---- a vertex against an edge
 
   module _ (v e : ℕ) (w : Hits f v e) where
-    to-fine : (u : PlanarPoint) (step : Float) (p vel from : PlanarPoint) (s : EventSearch) (x : Vertex) → lt step zero-float ≡ false → Fine s → Fine (hit-to v e u step (moved-by p vel step) from s x)
+    to-fine : (u : PlanarPoint) (step : Float) (p vel from : PlanarPoint) (s : EventSearch) (to z : PlanarPoint) → lt step zero-float ≡ false → Fine s
+        → Fine (hit-to v e u step (moved-by p vel step) from s (Moving to z))
     unfolding hit-to look-split
-    to-fine u step p vel from s NoVertex q h = lost-fine s h
-    to-fine u step p vel from s (Moving to z) q h = go (hit-within u (moved-by p vel step) from to) refl
+    to-fine u step p vel from s to z q h = go (hit-within u (moved-by p vel step) from to) refl
       where
         go : (b : Bool) → hit-within u (moved-by p vel step) from to ≡ b → Fine (cond b (look-split s (SplitAfter v e step)) s)
-        go true r = record { gone = h .gone; struck = (w, hit-forward u p vel from to step q r) }
+        go true r = record { gone = h .gone; struck = (w, hit-forward u p vel from to step q r); moving = h .moving }
         go false r = h
 
-    from-fine : (target : Edge) (step at : Float) (p vel : PlanarPoint) (s : EventSearch) (x : Vertex) → lt step zero-float ≡ false → Fine s → Fine (hit-from f v e target step at (moved-by p vel step) s x)
+    from-fine : (step at : Float) (p vel : PlanarPoint) (s : EventSearch) (from z : PlanarPoint) → lt step zero-float ≡ false → Fine s
+        → Fine (hit-from f v e (edge f e) step at (moved-by p vel step) s (Moving from z))
     unfolding hit-from
-    from-fine target step at p vel s NoVertex q h = lost-fine s h
-    from-fine target step at p vel s (Moving from z) q h = to-fine (direction (target .line)) step p vel from s (vertex f (target .next) at) q h
+    from-fine step at p vel s from z q h =
+        at-vertex f moves on (λ x. Fine (hit-to v e (direction ((edge f e) .line)) step (moved-by p vel step) from s x)) ((edge f e) .next) (on e (w .hit)) at
+        (λ to y. to-fine (direction ((edge f e) .line)) step p vel from s to y q h)
 
-    after-fine : (target : Edge) (p vel : PlanarPoint) (step : Float) (s : EventSearch) → Fine s → Fine (hit-after f t v e target p vel step s)
+    after-fine : (p vel : PlanarPoint) (step : Float) (s : EventSearch) → Fine s → Fine (hit-after f t v e (edge f e) p vel step s)
     unfolding hit-after hit-then
-    after-fine target p vel step s h = go (lt step zero-float) refl (late step (s .split))
+    after-fine p vel step s h = go (lt step zero-float) refl (late step (s .split))
       where
-        go : (b : Bool) → lt step zero-float ≡ b → (c : Bool) → Fine (cond (b || c) s (hit-from f v e target step (add t step) (moved-by p vel step) s (vertex f e (add t step))))
+        go : (b : Bool) → lt step zero-float ≡ b → (c : Bool) → Fine (cond (b || c) s (hit-from f v e (edge f e) step (add t step) (moved-by p vel step) s (vertex f e (add t step))))
         go true q c = h
         go false q true = h
-        go false q false = from-fine target step (add t step) p vel s (vertex f e (add t step)) q h
+        go false q false =
+            at-vertex f moves on (λ x. Fine (hit-from f v e (edge f e) step (add t step) (moved-by p vel step) s x)) e (w .hit) (add t step)
+            (λ from z. from-fine step (add t step) p vel s from z q h)
 
-    at-fine : (target : Edge) (p vel : PlanarPoint) (s : EventSearch) → Fine s → Fine (hit-at f t v e target p vel s)
+    at-fine : (p vel : PlanarPoint) (s : EventSearch) → Fine s → Fine (hit-at f t v e (edge f e) p vel s)
     unfolding hit-at hit-closing
-    at-fine target p vel s h =
-        let closing : Float = Number.sub (dot (normal (target .line)) vel) one in
-        let step : Float = div (Number.sub (add (target .line .c) t) (dot (normal (target .line)) p)) closing in
-        either (le zero-float closing) s (hit-after f t v e target p vel step s) h (after-fine target p vel step s h)
+    at-fine p vel s h =
+        let closing : Float = Number.sub (dot (normal ((edge f e) .line)) vel) one in
+        let step : Float = div (Number.sub (add ((edge f e) .line .c) t) (dot (normal ((edge f e) .line)) p)) closing in
+        either (le zero-float closing) s (hit-after f t v e (edge f e) p vel step s) h (after-fine p vel step s h)
 
   hits-of : (v e : ℕ) (s : EventSearch) → links f .live v ≡ 1 → candidate v ((edge f v) .previous) e (edge f e) s ≡ true → Hits f v e
   unfolding candidate
-  hits-of v e s a q = go (s .lost) ((edge f e) .alive) refl (eqb e v) refl (eqb e ((edge f v) .previous)) refl q
+  hits-of v e s a q = go (s .stalled) ((edge f e) .alive) refl (eqb e v) refl (eqb e ((edge f v) .previous)) refl q
     where
       go : (l : Bool) → (i : Bool) → (edge f e) .alive ≡ i → (j : Bool) → eqb e v ≡ j → (k : Bool) → eqb e ((edge f v) .previous) ≡ k
           → (not l && (i && (not j && not k))) ≡ true → Hits f v e
@@ -115,17 +141,17 @@ module _ (f : List Edge) (t : Float) (rates : Rates f t) where
       step e r g = go (candidate v ((edge f v) .previous) e (edge f e) r) refl
         where
           go : (b : Bool) → candidate v ((edge f v) .previous) e (edge f e) r ≡ b → Fine (cond b (hit-at f t v e (edge f e) p vel r) r)
-          go true q = at-fine v e (hits-of v e r a q) (edge f e) p vel r g
+          go true q = at-fine v e (hits-of v e r a q) p vel r g
           go false q = g
 
   -- ---- one edge
 
-  sooner-fine : (x : ℕ) (step : Float) (c : SoonestCollapse) → links f .live x ≡ 1 → Forward step → Gone c → Gone (sooner x step c)
+  sooner-fine : (x : ℕ) (step : Float) (c : SoonestCollapse) → links f .live x ≡ 1 → Forward step → Gone f c → Gone f (sooner x step c)
   unfolding sooner
   sooner-fine x step NoCollapse a k g = (a, k)
   sooner-fine x step (CollapseAfter y s) a k g = go (lt step s)
     where
-      go : (b : Bool) → Gone (cond b (CollapseAfter x step) (CollapseAfter y s))
+      go : (b : Bool) → Gone f (cond b (CollapseAfter x step) (CollapseAfter y s))
       go true = (a, k)
       go false = g
 
@@ -137,7 +163,7 @@ module _ (f : List Edge) (t : Float) (rates : Rates f t) where
       step = div (fmax l zero-float) (neg rate)
 
       go : (b : Bool) → lt rate zero-float ≡ b → Fine (cond b (look-collapse s (sooner x step (s .collapse))) s)
-      go true r = record { gone = sooner-fine x step (s .collapse) a (shrink-forward l rate r (rates x l rate q)) (h .gone); struck = h .struck }
+      go true r = record { gone = sooner-fine x step (s .collapse) a (shrink-forward l rate r (rates x a l rate q)) (h .gone); struck = h .struck; moving = h .moving }
       go false r = h
 
   turn-fine : (x : ℕ) (p vel : PlanarPoint) (s : EventSearch) → links f .live x ≡ 1 → Fine s → Fine (look-turn f t x (edge f x) p vel s)
@@ -146,52 +172,42 @@ module _ (f : List Edge) (t : Float) (rates : Rates f t) where
       either (le zero-float (cross (direction ((edge f ((edge f x) .previous)) .line)) (direction ((edge f x) .line)))) s (hits f t x ((edge f x) .previous) p vel s)
       h (hits-fine x p vel s a h)
 
-  length-fine : (x : ℕ) (p vel : PlanarPoint) (s : EventSearch) (l : Length) → edge-length f x t ≡ l → links f .live x ≡ 1 → Fine s → Fine (look-length f t x (edge f x) p vel s l)
-  unfolding look-length
-  length-fine x p vel s NoLength q a h = lost-fine s h
-  length-fine x p vel s (Long l rate) q a h = turn-fine x p vel (shrinking x l rate s) a (shrinking-fine x l rate s a q h)
-
-  vertex-fine : (x : ℕ) (s : EventSearch) (v : Vertex) → links f .live x ≡ 1 → Fine s → Fine (look-vertex f t x (edge f x) s v)
-  unfolding look-vertex
-  vertex-fine x s NoVertex a h = lost-fine s h
-  vertex-fine x s (Moving p vel) a h = length-fine x p vel s (edge-length f x t) refl a h
+  vertex-fine : (x : ℕ) (s : EventSearch) → links f .live x ≡ 1 → Fine s → Fine (look-vertex f t x (edge f x) s (vertex f x t))
+  unfolding look-vertex look-length
+  vertex-fine x s a h =
+      at-vertex f moves on (λ v. Fine (look-vertex f t x (edge f x) s v)) x a t
+      (λ p vel. let m : (l : Float) × (rate : Float) × (edge-length f x t ≡ Long l rate) = length-there f moves on x a t in
+      subst (λ (l : Length). Fine (look-length f t x (edge f x) p vel s l)) (sym (m .2))
+      (turn-fine x p vel (shrinking x (m .0) (m .1) s) a (shrinking-fine x (m .0) (m .1) s a (m .2) h)))
 
   step-fine : (x : ℕ) (s : EventSearch) → Fine s → Fine (look-step f t x s)
   unfolding look-step look-at
-  step-fine x s h = go (s .lost) ((edge f x) .alive) refl
+  step-fine x s h = go (s .stalled) ((edge f x) .alive) refl
     where
       go : (l a : Bool) → (edge f x) .alive ≡ a → Fine (cond (not l && a) (look-vertex f t x (edge f x) s (vertex f x t)) s)
       go true a q = h
       go false false q = h
-      go false true q = vertex-fine x s (vertex f x t) (ap bit q) h
+      go false true q = vertex-fine x s (ap bit q) h
 
   look-fine : Fine (look f t)
   unfolding look
-  look-fine = rounds-keep (look-step f t) (λ i s. Fine s) (record { lost = false; collapse = NoCollapse; split = NoSplit }) (record { gone = tt; struck = tt }) step-fine 128
+  look-fine = rounds-keep (look-step f t) (λ i s. Fine s) (record { stalled = false; collapse = NoCollapse; split = NoSplit }) (record { gone = tt; struck = tt; moving = refl }) step-fine 128
 
   -- ---- the event
 
-  abbrev pub Event-is : Event → Type 0
-  Event-is Lost = Unit {0}
-  Event-is Never = Unit {0}
-  Event-is (Collapse x s) = (links f .live x ≡ 1) × Forward s
-  Event-is (Split v e s) = Hits f v e × Forward s
-
-  choose-fine : (c : SoonestCollapse) (h : SoonestSplit) → Gone c → Struck h → Event-is (choose t c h)
+  choose-fine : (c : SoonestCollapse) (h : SoonestSplit) → Gone f c → Struck f h → Event-is f (choose t c h)
   unfolding choose
   choose-fine NoCollapse NoSplit g k = tt
   choose-fine NoCollapse (SplitAfter v e s) g k = k
   choose-fine (CollapseAfter x c) NoSplit g k = g
   choose-fine (CollapseAfter x c) (SplitAfter v e s) g k = go (lt s (Number.sub c (mul tie (add one t))))
     where
-      go : (b : Bool) → Event-is (cond b (Split v e s) (Collapse x c))
+      go : (b : Bool) → Event-is f (cond b (Split v e s) (Collapse x c))
       go true = k
       go false = g
 
-  pub event-fine : Event-is (next-event f t)
+  pub event-fine : Event-is f (next-event f t)
   unfolding next-event event-of
-  event-fine = go ((look f t) .lost)
-    where
-      go : (b : Bool) → Event-is (cond b Lost (choose t ((look f t) .collapse) ((look f t) .split)))
-      go true = tt
-      go false = choose-fine ((look f t) .collapse) ((look f t) .split) (look-fine .gone) (look-fine .struck)
+  event-fine =
+      subst (λ (b : Bool). Event-is f (cond b Stalled (choose t ((look f t) .collapse) ((look f t) .split)))) (sym (look-fine .moving))
+      (choose-fine ((look f t) .collapse) ((look f t) .split) (look-fine .gone) (look-fine .struck))

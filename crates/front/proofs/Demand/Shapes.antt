@@ -16,7 +16,7 @@ use Rattle.front.specs.declared.Through.{Through}
 use Rattle.front.specs.declared.Through.the-variants.{NoLine, Along}
 use Rattle.math.specs.Number.{div, zero-float, abs}
 use Rattle.ringcheck.specs.Checks.{max-coordinate}
-use Rattle.math.specs.Hypot.{hypot}
+use Rattle.hypotenuse.specs.Hypot.{hypot}
 use Rattle.plane.specs.Plane.{sub}
 use Rattle.ring.specs.Ring.{vertex-at, following}
 use Rattle.ring.proofs.Vertices.{following-lt}
@@ -37,7 +37,7 @@ Through-is (Along l) = Bounded l
 
 along-bounded : (p : PlanarPoint) (x y : Float) → Small 1 x → Small 1 y → Bounded (line-along p x y)
 unfolding line-along
-along-bounded p x y h k = record { u0 = h; u1 = k; n0 = neg-small 1 y k; n1 = h }
+along-bounded p x y h k = record { u0 = h; u1 = k; n0 = neg-small 1 y k; n1 = h; left = (refl, refl) }
 
 by-bounded : (p : PlanarPoint) (k : ℕ) (x y : Float) → Small k x → Small k y → Through-is (line-by p (record { east = x; north = y }) (hypot x y))
 unfolding line-by

@@ -22,8 +22,8 @@ use Rattle.math.specs.Number.{one, add, mul, zero-float, abs}
 use Rattle.front.specs.Thresholds.{parallel, opposite, on-edge, tie}
 use Rattle.plane.specs.Plane.{dot, cross}
 use Rattle.loops.specs.Loop.{rounds}
-use Rattle.front.specs.Edges.{edge, set-start, kill, remove, ring-len, vertex, moved, lost, anchor-at, anchor, then-remove, collapse, edge-length}
-use Rattle.front.specs.Lines.{along as direction, meeting}
+use Rattle.front.specs.Edges.{edge, set-start, kill, remove, ring-len, vertex, altered, stalled, anchor-at, anchor, then-remove, collapse, edge-length}
+use Rattle.front.specs.Lines.{direction, meeting}
 use Rattle.front.specs.Tidying.{tidy-length, tidy-turn, tidy-edge, tidy-at, unless-found, find-step, find-tidy, Drop, drop-on, drop-step, drop-ring, drop-straight, meeting-or, drop-both, spike-to, spike-from, drop-spike, tidy-by, tidy-once, tidy-step, tidy}
 use Rattle.front.specs.Demand.{Links, bit, links}
 use Rattle.front.proofs.Demand.Links
@@ -40,75 +40,113 @@ use Rattle.front.proofs.Demand.Kept.{Kept, Less, less-of, out-of, remov
 -- ---- the first slot at which something is wrong
 
 module _ (f : List Edge) (t : Float) where
-  -- what a finding says, of a slot
-  abbrev At : ℕ → Tidy → Type 0
-  At x Settled = links f .live x ≡ 1 → 3 ≤ ring-len f x
-  At x (SmallRing k) = (links f .live k ≡ 1) × (ring-len f k < 3)
-  At x (Straight k) = (links f .live k ≡ 1) × (3 ≤ ring-len f k)
-  At x (Spike k) = (links f .live k ≡ 1) × (3 ≤ ring-len f k)
-  At x (Empty k) = (links f .live k ≡ 1) × (3 ≤ ring-len f k)
+  -- what is found, of a live edge: its ring is small, or it is not
+  abbrev Found : Tidy → Type 0
+  Found Settled = Unit {0}
+  Found (SmallRing k) = (links f .live k ≡ 1) × (ring-len f k < 3)
+  Found (Straight k) = (links f .live k ≡ 1) × (3 ≤ ring-len f k)
+  Found (Spike k) = (links f .live k ≡ 1) × (3 ≤ ring-len f k)
+  Found (Empty k) = (links f .live k ≡ 1) × (3 ≤ ring-len f k)
 
-  either : (x : ℕ) (b : Bool) (p q : Tidy) → At x p → At x q → At x (cond b p q)
-  either x true p q h k = h
-  either x false p q h k = k
+  either : (b : Bool) (p q : Tidy) → Found p → Found q → Found (cond b p q)
+  either true p q h k = h
+  either false p q h k = k
 
-  at-length : (x : ℕ) (l : Length) → links f .live x ≡ 1 → 3 ≤ ring-len f x → At x (tidy-length x t l)
+  at-length : (x : ℕ) (l : Length) → links f .live x ≡ 1 → 3 ≤ ring-len f x → Found (tidy-length x t l)
   unfolding tidy-length
-  at-length x NoLength a h = λ b. h
-  at-length x (Long l rate) a h = either x (le l (mul on-edge (add one t)) && le rate tie) (Empty x) Settled (a, h) (λ b. h)
+  at-length x NoLength a h = tt
+  at-length x (Long l rate) a h = either (le l (mul on-edge (add one t)) && le rate tie) (Empty x) Settled (a, h) tt
 
-  at-turn : (x : ℕ) (u w : PlanarPoint) → links f .live x ≡ 1 → 3 ≤ ring-len f x → At x (tidy-turn f x t u w)
+  at-turn : (x : ℕ) (u w : PlanarPoint) → links f .live x ≡ 1 → 3 ≤ ring-len f x → Found (tidy-turn f x t u w)
   unfolding tidy-turn
   at-turn x u w a h =
       let r : Tidy = tidy-length x t (edge-length f x t) in
       let s : Tidy = cond (lt (abs (cross u w)) parallel && lt zero-float (dot u w)) (Straight x) r in
-      either x (lt (add one (dot u w)) opposite) (Spike x) s (a, h)
-      (either x (lt (abs (cross u w)) parallel && lt zero-float (dot u w)) (Straight x) r (a, h) (at-length x (edge-length f x t) a h))
+      either (lt (add one (dot u w)) opposite) (Spike x) s (a, h)
+      (either (lt (abs (cross u w)) parallel && lt zero-float (dot u w)) (Straight x) r (a, h) (at-length x (edge-length f x t) a h))
 
-  at-edge : (x : ℕ) (e : Edge) → links f .live x ≡ 1 → At x (tidy-edge f x t e)
+  at-edge : (x : ℕ) (e : Edge) → links f .live x ≡ 1 → Found (tidy-edge f x t e)
   unfolding tidy-edge
   at-edge x e a = go (ltb (ring-len f x) 3) refl
     where
       w : Tidy
       w = tidy-turn f x t (direction (e .line)) (direction ((edge f (e .next)) .line))
 
-      go : (b : Bool) → ltb (ring-len f x) 3 ≡ b → At x (cond b (SmallRing x) w)
+      go : (b : Bool) → ltb (ring-len f x) 3 ≡ b → Found (cond b (SmallRing x) w)
       go true q = (a, ltb-true (ring-len f x) 3 q)
       go false q = at-turn x (direction (e .line)) (direction ((edge f (e .next)) .line)) a (ltb-false (ring-len f x) 3 q)
 
-  at-slot : (x : ℕ) → At x (tidy-at f x t (edge f x))
+  at-slot : (x : ℕ) → Found (tidy-at f x t (edge f x))
   unfolding tidy-at
   at-slot x = go ((edge f x) .alive) refl
     where
-      go : (b : Bool) → (edge f x) .alive ≡ b → At x (cond b (tidy-edge f x t (edge f x)) Settled)
+      go : (b : Bool) → (edge f x) .alive ≡ b → Found (cond b (tidy-edge f x t (edge f x)) Settled)
       go true q = at-edge x (edge f x) (ap bit q)
-      go false q = λ a. absurd (omega (arith, ap bit q))
+      go false q = tt
 
-  -- after i slots
-  abbrev Found : ℕ → Tidy → Type 0
-  Found i Settled = (r : ℕ) → r < i → links f .live r ≡ 1 → 3 ≤ ring-len f r
-  Found i (SmallRing k) = (links f .live k ≡ 1) × (ring-len f k < 3)
-  Found i (Straight k) = (links f .live k ≡ 1) × (3 ≤ ring-len f k)
-  Found i (Spike k) = (links f .live k ≡ 1) × (3 ≤ ring-len f k)
-  Found i (Empty k) = (links f .live k ≡ 1) × (3 ≤ ring-len f k)
-
-  found-on : (i : ℕ) (s r : Tidy) → Found i s → At i r → Found (suc i) (unless-found s r)
+  found-on : (s r : Tidy) → Found s → Found r → Found (unless-found s r)
   unfolding unless-found
-  found-on i Settled Settled h k = λ r l a. by-cases r i
-      (λ q. subst (λ (j : ℕ). 3 ≤ ring-len f j) (sym q) (k (ap (links f .live) (sym q) ∙ a)))
-      (λ d. h r (omega arith) a)
-  found-on i Settled (SmallRing x) h k = k
-  found-on i Settled (Straight x) h k = k
-  found-on i Settled (Spike x) h k = k
-  found-on i Settled (Empty x) h k = k
-  found-on i (SmallRing x) r h k = h
-  found-on i (Straight x) r h k = h
-  found-on i (Spike x) r h k = h
-  found-on i (Empty x) r h k = h
+  found-on Settled r h k = k
+  found-on (SmallRing x) r h k = h
+  found-on (Straight x) r h k = h
+  found-on (Spike x) r h k = h
+  found-on (Empty x) r h k = h
 
-  found : Found 128 (find-tidy f t)
+  found : Found (find-tidy f t)
   unfolding find-tidy find-step
-  found = rounds-keep (find-step f t) Found Settled (λ r l a. absurd (omega arith)) (λ i s h. found-on i s (tidy-at f i t (edge f i)) h (at-slot i)) 128
+  found = rounds-keep (find-step f t) (λ i. Found) Settled tt (λ i s h. found-on s (tidy-at f i t (edge f i)) h (at-slot i)) 128
+
+  -- ---- nothing is found
+
+  is-settled : Tidy → Bool
+  is-settled Settled = true
+  is-settled (SmallRing k) = false
+  is-settled (Straight k) = false
+  is-settled (Spike k) = false
+  is-settled (Empty k) = false
+
+  settled-both : (s r : Tidy) → unless-found s r ≡ Settled → (s ≡ Settled) × (r ≡ Settled)
+  unfolding unless-found is-settled
+  settled-both Settled r q = (refl, q)
+  settled-both (SmallRing k) r q = absurd (false≢true (ap is-settled q))
+  settled-both (Straight k) r q = absurd (false≢true (ap is-settled q))
+  settled-both (Spike k) r q = absurd (false≢true (ap is-settled q))
+  settled-both (Empty k) r q = absurd (false≢true (ap is-settled q))
+
+  settled-slots : find-tidy f t ≡ Settled → (x : ℕ) → x < 128 → tidy-at f x t (edge f x) ≡ Settled
+  unfolding find-tidy find-step
+  settled-slots =
+      rounds-keep (find-step f t) (λ i s. s ≡ Settled → (x : ℕ) → x < i → tidy-at f x t (edge f x) ≡ Settled) Settled (λ q x h. absurd (omega arith))
+      (λ i s h q x l. by-cases x i
+      (λ e. subst (λ (k : ℕ). tidy-at f k t (edge f k) ≡ Settled) (sym e) (settled-both s (tidy-at f i t (edge f i)) q .1))
+      (λ d. h (settled-both s (tidy-at f i t (edge f i)) q .0) x (omega arith)))
+      128
+
+  -- a live edge at which nothing is found: its ring has three edges or more, and it and its next do not face opposite ways
+  record Right (x : ℕ) : Type 0 where
+    three : 3 ≤ ring-len f x
+    apart : lt (add one (dot (direction ((edge f x) .line)) (direction ((edge f ((edge f x) .next)) .line)))) opposite ≡ false
+
+  right : find-tidy f t ≡ Settled → (x : ℕ) → links f .live x ≡ 1 → Right x
+  unfolding tidy-at tidy-edge tidy-turn is-settled
+  right q x a = go ((edge f x) .alive) (alive-of ((edge f x) .alive) a) (ltb (ring-len f x) 3) refl (lt (add one (dot u w)) opposite) refl
+      (settled-slots q x (live-in f x a))
+    where
+      u : PlanarPoint
+      u = direction ((edge f x) .line)
+
+      w : PlanarPoint
+      w = direction ((edge f ((edge f x) .next)) .line)
+
+      rest : Tidy
+      rest = cond (lt (abs (cross u w)) parallel && lt zero-float (dot u w)) (Straight x) (tidy-length x t (edge-length f x t))
+
+      go : (i : Bool) → i ≡ true → (b : Bool) → ltb (ring-len f x) 3 ≡ b → (c : Bool) → lt (add one (dot u w)) opposite ≡ c
+          → cond i (cond b (SmallRing x) (cond c (Spike x) rest)) Settled ≡ Settled → Right x
+      go false i b qb c qc z = absurd (false≢true i)
+      go true i true qb c qc z = absurd (false≢true (ap is-settled z))
+      go true i false qb true qc z = absurd (false≢true (ap is-settled z))
+      go true i false qb false qc z = record { three = ltb-false (ring-len f x) 3 qb; apart = qc }
 
 -- ---- a small ring dropped
 
@@ -178,13 +216,13 @@ module _ (f : List Edge) (l : length f ≡ 128) (x : ℕ) where
 
 -- ---- one step mended
 
--- a step that lost no vertex left fewer edges
+-- a step that met no vertex without a velocity left fewer edges
 abbrev Mended : Front → ℕ → ℕ → ℕ → Type 0
-Mended s events bound m = s .lost ≡ false → Less (s .edges) events bound m
+Mended s events bound m = s .stalled ≡ false → Less (s .edges) events bound m
 
 anchored : (f : List Edge) (events bound s x : ℕ) (t : Float) (k : Kept f events bound) → links f .live x ≡ 1 → (v : Vertex)
     → Mended (then-remove x (anchor-at f s t v)) events bound (edges (k .held .rs))
-unfolding then-remove anchor-at moved lost starts
+unfolding then-remove anchor-at altered stalled starts
 anchored f events bound s x t k a NoVertex = λ q. absurd (true≢false q)
 anchored f events bound s x t k a (Moving p v) = λ q.
     removes (set-start f s p t) events bound x (starts f events bound s p t k) (start-same f (k .size) s p t .lives x ∙ a)
@@ -203,7 +241,7 @@ apart f events bound x k a h =
 
 both-gone : (f : List Edge) (events bound x : ℕ) (p : PlanarPoint) (t : Float) (k : Kept f events bound) → links f .live x ≡ 1 → 3 ≤ ring-len f x
     → Mended (drop-both f x ((edge f x) .next) ((edge f ((edge f x) .next)) .next) p t) events bound (edges (k .held .rs))
-unfolding drop-both moved starts
+unfolding drop-both altered starts
 both-gone f events bound x p t k a h = λ q.
     let n : ℕ = (edge f x) .next in
     let an : links f .live n ≡ 1 = live-next (links f) (k .held .rs) (k .held .rings) x a in
@@ -217,14 +255,14 @@ both-gone f events bound x p t k a h = λ q.
 
 spike-to-gone : (f : List Edge) (events bound x before : ℕ) (t : Float) (p : PlanarPoint) (k : Kept f events bound) → links f .live x ≡ 1 → 3 ≤ ring-len f x → (v : Vertex)
     → Mended (spike-to f x before ((edge f x) .next) ((edge f ((edge f x) .next)) .next) t p v) events bound (edges (k .held .rs))
-unfolding spike-to lost
+unfolding spike-to stalled
 spike-to-gone f events bound x before t p k a h NoVertex = λ q. absurd (true≢false q)
 spike-to-gone f events bound x before t p k a h (Moving q w) =
     both-gone f events bound x (meeting-or p q (meeting ((edge f before) .line) ((edge f ((edge f ((edge f x) .next)) .next)) .line) t)) t k a h
 
 spike-from-gone : (f : List Edge) (events bound x before : ℕ) (t : Float) (k : Kept f events bound) → links f .live x ≡ 1 → 3 ≤ ring-len f x → (v : Vertex)
     → Mended (spike-from f x before ((edge f x) .next) ((edge f ((edge f x) .next)) .next) t v) events bound (edges (k .held .rs))
-unfolding spike-from lost
+unfolding spike-from stalled
 spike-from-gone f events bound x before t k a h NoVertex = λ q. absurd (true≢false q)
 spike-from-gone f events bound x before t k a h (Moving p v) =
     spike-to-gone f events bound x before t p k a h (vertex f ((edge f ((edge f x) .next)) .next) t)
@@ -253,103 +291,113 @@ small-gone f events bound x k a h =
 
 -- ---- the loop
 
--- after i rounds that lost nothing: each took an edge or more out, until one found nothing wrong
-record Tried (events bound i : ℕ) (s : Front) : Type 0 where
+-- after i rounds, all of them with velocities: each took an edge or more out, until one found nothing wrong
+record Tried (events bound : ℕ) (t : Float) (i : ℕ) (s : Front) : Type 0 where
   kept : Kept (s .edges) events bound
   left : s .changed ≡ true → edges (kept .held .rs) + i ≤ 128
-  clean : s .changed ≡ false → Links.Tidy 128 (links (s .edges))
+  settled : s .changed ≡ false → find-tidy (s .edges) t ≡ Settled
 
-abbrev TriedAt : ℕ → ℕ → ℕ → Front → Type 0
-TriedAt events bound i s = s .lost ≡ false → Tried events bound i s
+abbrev TriedAt : ℕ → ℕ → Float → ℕ → Front → Type 0
+TriedAt events bound t i s = s .stalled ≡ false → Tried events bound t i s
 
 module _ (events bound : ℕ) (t : Float) (f : List Edge) (k : Kept f events bound) (i : ℕ) (left : edges (k .held .rs) + i ≤ 128) where
-  mended-on : (s : Front) → s .changed ≡ true → Mended s events bound (edges (k .held .rs)) → TriedAt events bound (suc i) s
+  mended-on : (s : Front) → s .changed ≡ true → Mended s events bound (edges (k .held .rs)) → TriedAt events bound t (suc i) s
   mended-on s c m q = record {
     kept = m q .kept;
     left = λ e. omega (arith, m q .fewer);
-    clean = λ e. absurd (true≢false (sym c ∙ e));
+    settled = λ e. absurd (true≢false (sym c ∙ e));
   }
 
   then-changed : (x : ℕ) (s : Front) → s .changed ≡ true → (then-remove x s) .changed ≡ true
-  unfolding then-remove moved
-  then-changed x s c = go (s .lost)
+  unfolding then-remove altered
+  then-changed x s c = go (s .stalled)
     where
-      go : (b : Bool) → (cond b s (moved (remove (s .edges) x))) .changed ≡ true
+      go : (b : Bool) → (cond b s (altered (remove (s .edges) x))) .changed ≡ true
       go true = c
       go false = refl
 
   anchor-changed : (g : List Edge) (x : ℕ) (v : Vertex) → (anchor-at g x t v) .changed ≡ true
-  unfolding anchor-at moved lost
+  unfolding anchor-at altered stalled
   anchor-changed g x NoVertex = refl
   anchor-changed g x (Moving p v) = refl
 
   to-changed : (g : List Edge) (x before m after : ℕ) (p : PlanarPoint) (w : Vertex) → (spike-to g x before m after t p w) .changed ≡ true
-  unfolding spike-to lost drop-both moved
+  unfolding spike-to stalled drop-both altered
   to-changed g x before m after p NoVertex = refl
   to-changed g x before m after p (Moving q w) = refl
 
   spike-changed : (g : List Edge) (x before m after : ℕ) (v : Vertex) → (spike-from g x before m after t v) .changed ≡ true
-  unfolding spike-from lost
+  unfolding spike-from stalled
   spike-changed g x before m after NoVertex = refl
   spike-changed g x before m after (Moving p v) = to-changed g x before m after p (vertex g after t)
 
-  once-case : (r : Tidy) → Found f t 128 r → TriedAt events bound (suc i) (tidy-by f t r)
-  unfolding tidy-by moved collapse anchor drop-straight drop-spike
-  once-case Settled h q = record {
-    kept = k;
-    left = λ e. absurd (false≢true e);
-    clean = λ e x a. subst (λ (m : ℕ). 3 ≤ m) (ring-len-same f events bound x k a) (h x (live-in f x a) a);
-  }
-  once-case (SmallRing x) h q = mended-on (moved (drop-ring f x)) refl (λ e. small-gone f events bound x k (h .0) (h .1)) q
-  once-case (Straight x) h q =
+  once-case : (r : Tidy) → find-tidy f t ≡ r → Found f t r → TriedAt events bound t (suc i) (tidy-by f t r)
+  unfolding tidy-by altered collapse anchor drop-straight drop-spike
+  once-case Settled z h q = record { kept = k; left = λ e. absurd (false≢true e); settled = λ e. z }
+  once-case (SmallRing x) z h q = mended-on (altered (drop-ring f x)) refl (λ e. small-gone f events bound x k (h .0) (h .1)) q
+  once-case (Straight x) z h q =
       let m : ℕ = (edge f x) .next in
       let v : Vertex = vertex f ((edge f m) .next) t in
       mended-on (then-remove m (anchor-at f ((edge f m) .next) t v)) (then-changed m (anchor-at f ((edge f m) .next) t v) (anchor-changed f ((edge f m) .next) v))
       (anchored f events bound ((edge f m) .next) m t k (live-next (links f) (k .held .rs) (k .held .rings) x (h .0)) v) q
-  once-case (Spike x) h q =
+  once-case (Spike x) z h q =
       let m : ℕ = (edge f x) .next in
       let v : Vertex = vertex f x t in
       mended-on (spike-from f x ((edge f x) .previous) m ((edge f m) .next) t v) (spike-changed f x ((edge f x) .previous) m ((edge f m) .next) v)
       (spike-from-gone f events bound x ((edge f x) .previous) t k (h .0) (h .1) v) q
-  once-case (Empty x) h q =
+  once-case (Empty x) z h q =
       let m : ℕ = (edge f x) .next in
       let v : Vertex = vertex f m t in
       mended-on (then-remove x (anchor-at f m t v)) (then-changed x (anchor-at f m t v) (anchor-changed f m v)) (anchored f events bound m x t k (h .0) v) q
 
 module _ (events bound : ℕ) (t : Float) where
-  once-at : (f : List Edge) (i : ℕ) (k : Kept f events bound) → edges (k .held .rs) + i ≤ 128 → TriedAt events bound (suc i) (tidy-once f t)
+  once-at : (f : List Edge) (i : ℕ) (k : Kept f events bound) → edges (k .held .rs) + i ≤ 128 → TriedAt events bound t (suc i) (tidy-once f t)
   unfolding tidy-once
-  once-at f i k left = once-case events bound t f k i left (find-tidy f t) (found f t)
+  once-at f i k left = once-case events bound t f k i left (find-tidy f t) refl (found f t)
 
-  step-case : (i : ℕ) (s : Front) → TriedAt events bound i s → TriedAt events bound (suc i) (tidy-step t i s)
+  step-case : (i : ℕ) (s : Front) → TriedAt events bound t i s → TriedAt events bound t (suc i) (tidy-step t i s)
   unfolding tidy-step
-  step-case i s h = go (s .changed) refl (s .lost) refl
+  step-case i s h = go (s .changed) refl (s .stalled) refl
     where
-      go : (c : Bool) → s .changed ≡ c → (b : Bool) → s .lost ≡ b → TriedAt events bound (suc i) (cond (c && not b) (tidy-once (s .edges) t) s)
-      go false qc b qb q = record { kept = h q .kept; left = λ e. absurd (false≢true (sym qc ∙ e)); clean = h q .clean }
+      go : (c : Bool) → s .changed ≡ c → (b : Bool) → s .stalled ≡ b → TriedAt events bound t (suc i) (cond (c && not b) (tidy-once (s .edges) t) s)
+      go false qc b qb q = record { kept = h q .kept; left = λ e. absurd (false≢true (sym qc ∙ e)); settled = h q .settled }
       go true qc true qb q = absurd (true≢false (sym qb ∙ q))
       go true qc false qb q = once-at (s .edges) i (h qb .kept) (h qb .left qc) q
 
--- a front with rings of three edges or more
-pub record Tidied (f : List Edge) (events bound : ℕ) : Type 0 where
+-- a front that is tidied at the offset t: nothing more is found, and its rings have three edges or more
+pub record Tidied (f : List Edge) (t : Float) (events bound : ℕ) : Type 0 where
   pub kept : Kept f events bound
+  pub settled : find-tidy f t ≡ Settled
   pub clean : Links.Tidy 128 (links f)
 
--- tidying, where it loses no vertex, leaves rings of three edges or more
-pub tidy-law : (f : List Edge) (events bound : ℕ) (t : Float) → Kept f events bound → (tidy f t) .lost ≡ false → Tidied ((tidy f t) .edges) events bound
-unfolding tidy moved
-tidy-law f events bound t k = go (rounds (tidy-step t) 129 (moved f)) (rounds-keep (tidy-step t) (TriedAt events bound) (moved f) first (step-case events bound t) 129)
+tidied-of : (f : List Edge) (t : Float) (events bound : ℕ) → Kept f events bound → find-tidy f t ≡ Settled → Tidied f t events bound
+tidied-of f t events bound k q = record {
+  kept = k;
+  settled = q;
+  clean = λ x a. subst (λ (m : ℕ). 3 ≤ m) (ring-len-same f events bound x k a) (right f t q x a .three);
+}
+
+-- an edge and its next do not face opposite ways
+pub tidied-apart : (f : List Edge) (t : Float) (events bound : ℕ) → Tidied f t events bound → (x : ℕ) → links f .live x ≡ 1
+    → lt (add one (dot (direction ((edge f x) .line)) (direction ((edge f ((edge f x) .next)) .line)))) opposite ≡ false
+tidied-apart f t events bound T x a = right f t (T .settled) x a .apart
+
+-- tidying, where it is not stalled, ends with a step that changes nothing
+pub tidy-law : (f : List Edge) (events bound : ℕ) (t : Float) → Kept f events bound → (tidy f t) .stalled ≡ false
+    → ((tidy f t) .changed ≡ false) × Tidied ((tidy f t) .edges) t events bound
+unfolding tidy altered
+tidy-law f events bound t k = go (rounds (tidy-step t) 129 (altered f)) (rounds-keep (tidy-step t) (TriedAt events bound t) (altered f) first (step-case events bound t) 129)
   where
-    first : TriedAt events bound 0 (moved f)
+    first : TriedAt events bound t 0 (altered f)
     first q = record {
       kept = k;
       left = λ e. omega (arith, edges-le (links f .next) (links f .prev) (links f .live) 128 (k .held .rs) (k .held .rings) (k .held .slots));
-      clean = λ e. absurd (true≢false e);
+      settled = λ e. absurd (true≢false e);
     }
 
-    go : (s : Front) → TriedAt events bound 129 s → s .lost ≡ false → Tidied (s .edges) events bound
+    go : (s : Front) → TriedAt events bound t 129 s → s .stalled ≡ false → (s .changed ≡ false) × Tidied (s .edges) t events bound
     go s h q = settle (s .changed) refl
       where
-        settle : (c : Bool) → s .changed ≡ c → Tidied (s .edges) events bound
-        settle false e = record { kept = h q .kept; clean = h q .clean e }
+        settle : (c : Bool) → s .changed ≡ c → (s .changed ≡ false) × Tidied (s .edges) t events bound
+        settle false e = (e, tidied-of (s .edges) t events bound (h q .kept) (h q .settled e))
         settle true e = absurd (omega (arith, h q .left e))

@@ -16,7 +16,7 @@ use lib.Ieee.Digits.{size-lt}
 use lib.Ieee.Exact.{HasValue, odd-sign}
 use lib.Ieee.Nearest.{nearest-ge}
 use Rattle.math.specs.Number.{div, zero-float}
-use Rattle.math.specs.Hypot.{whole-root, dropped, kept, round-root, count, hypot}
+use Rattle.hypotenuse.specs.Hypot.{whole-root, dropped, kept, round-root, count, hypot}
 use Rattle.front.proofs.Demand.Forward.{up-pos}
 use Rattle.front.proofs.Demand.Small.{Small, down-pos, round-small}
 

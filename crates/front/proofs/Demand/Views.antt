@@ -8,7 +8,6 @@ use native.Mathlib.Omega.{arith}
 use native.Mathlib.Decide.{decLt}
 use lib.Dec.{ltb}
 use lib.Ieee.{Float}
-use borrow.Author.Tests.{lt-ltb, le-ltb}
 use lib.ListN.{length, getD, set, length-set}
 use lib.Seq.{getD-set-same, getD-set-other}
 use Rattle.plane.specs.declared.PlanarPoint.{PlanarPoint}
@@ -16,20 +15,13 @@ use Rattle.front.specs.declared.Edge.{Edge}
 use Rattle.front.specs.Edges.{unused, blank, edge, with-next, with-previous, with-start, dead, set-next, set-previous, set-start, kill, unlinked, remove}
 use Rattle.front.specs.Splitting.{copy-of, cut, split-linked}
 use Rattle.front.specs.Demand.{bit, links}
+use Rattle.front.proofs.EdgeLaws.{edge-in, edge-out}
 use Rattle.front.proofs.Demand.Occ.{by-cases}
 use Rattle.front.proofs.Demand.Remove.{Stored}
 use Rattle.front.proofs.Demand.Links.{Out, Met, Same}
 use Rattle.front.proofs.Demand.Sets.{SetNext, SetPrev, SetDead, Put, out-by-sets, met-by-sets}
 
 -- ---- an edge of the front
-
-pub edge-in : (f : List Edge) (s : ℕ) → s < 128 → edge f s ≡ getD f s blank
-unfolding edge
-edge-in f s h = ap (λ (b : Bool). cond b (getD f s blank) unused) (lt-ltb s 128 h)
-
-pub edge-out : (f : List Edge) (s : ℕ) → 128 ≤ s → edge f s ≡ unused
-unfolding edge
-edge-out f s h = ap (λ (b : Bool). cond b (getD f s blank) unused) (le-ltb s 128 h)
 
 pub edge-here : (f : List Edge) (s : ℕ) (e : Edge) → length f ≡ 128 → s < 128 → edge (set f s e) s ≡ e
 edge-here f s e l h = edge-in (set f s e) s h ∙ getD-set-same f s e blank (omega arith)

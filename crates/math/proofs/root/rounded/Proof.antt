@@ -1,7 +1,7 @@
 -- `math::root::rounded` meets its contract: the rounded root, with one digit or two too many before. Assumes nothing.
 use borrow.Author.Needs.{needs}
 use mathlib.Core.Path.{sym, _∙_}
-use Prim.Native.Nat.{ℕ, _+_, _*_, _-_, _^_, _<_, _≤_}
+use Prim.Native.Nat.{ℕ, _+_, _*_, _<_}
 use native.Mathlib.Omega.{arith}
 use Rattle.math.specs.Parts.{Twice}
 use Rattle.math.proofs.Rounding.{near-one, near-two, round-root-is, fourth-range}

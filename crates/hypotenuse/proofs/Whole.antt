@@ -1,17 +1,16 @@
 -- What the definitions of `specs/Hypot.antt` come to. Assumes nothing.
 use mathlib.Core.Path.{_≡_, refl, sym, ap, _∙_, subst}
 use mathlib.Core.Bool.{Bool, true, false, not, cond}
-use mathlib.Core.Logic.{inl, inr}
-use Prim.Native.Nat.{ℕ, zero, suc, _+_, _-_, _*_, _/_, _%_, _^_, _≤_, _<_, compare, Ordering, Ordering·lt, Ordering·eq, Ordering·gt}
+use Prim.Native.Nat.{ℕ, zero, suc, _+_, _*_, _/_, _%_, _^_, _≤_, _<_, compare, Ordering, Ordering·lt, Ordering·eq, Ordering·gt}
 use native.Mathlib.Nat.{mul-le-mul, mul-le-mul-right, lt-of-lt-of-le, lt-of-le-of-lt, le-trans, le-div-iff-mul-le, div-lt-iff-lt-mul, lt-of-not-le, not-le-of-lt}
 use native.Mathlib.Omega.{arith}
-use lib.Dec.{T, leb, leb→le, nleb→lt, isLe, isEq, eqb, eqb→eq, eqb-refl, le→leb}
+use lib.Dec.{T, leb, leb→le, nleb→lt, isLe, isEq, eqb, eqb→eq, eqb-refl}
 use lib.Pow.{pow-pos, pow-mono, pow-add}
 use lib.Ieee.{binary64, size, nearest}
 use lib.Ieee.Digits.{size-lt, size-le}
-use Rattle.math.specs.Hypot.{whole-root, dropped, kept}
-use Rattle.math.proofs.Poly.{poly}
-use Rattle.math.proofs.Roots.{sq-lt}
+use Rattle.hypotenuse.specs.Hypot.{whole-root, dropped, kept}
+use Rattle.hypotenuse.proofs.Poly.{poly}
+use Rattle.hypotenuse.proofs.Order.{sq-lt}
 
 four : (d : ℕ) → 2 ^ (2 * suc d) ≡ 4 * 2 ^ (2 * d)
 four d = ap (λ (x : ℕ). 2 ^ x) (is d) ∙ pow-add 2 2 (2 * d)
@@ -76,7 +75,7 @@ module _ {s k w : ℕ} (d : Digits s k w) where
   unfolding dropped
   dropped-is = go k size-at-most size-at-least
     where
-      go : (k : ℕ) → size s ≤ 106 + 2 * k → (0 < k → 104 + 2 * k < size s) → (size s + 1) / 2 - 53 ≡ k
+      go : (k : ℕ) → size s ≤ 106 + 2 * k → (0 < k → 104 + 2 * k < size s) → dropped binary64 s ≡ k
       go zero a b = omega arith
       go (suc k) a b = let c = b (omega arith) in omega arith
 

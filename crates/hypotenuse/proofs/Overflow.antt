@@ -1,33 +1,21 @@
 -- Where the rounded root is infinity: exactly where the root reaches the middle between the largest double and the next number up.
--- And every finite double is among the numbers that `nearest-root` compares with. Assumes nothing.
+-- Assumes nothing.
 use mathlib.Core.Path.{_≡_, refl, sym, ap, _∙_, subst}
 use mathlib.Core.Logic.{_⊎_, inl, inr}
-use mathlib.Core.Bool.{Bool, true, false, not, cond}
-use Prim.Native.Nat.{ℕ, zero, suc, _+_, _-_, _*_, _/_, _%_, _^_, _≤_, _<_}
-use native.Mathlib.Nat.{mul-le-mul, mul-le-mul-right, lt-of-lt-of-le, lt-of-le-of-lt, le-trans, le-of-lt, lt-of-not-le, not-le-of-lt, lt-of-mul-lt-mul-right, eq-of-mul-eq-mul-right, le-antisymm, eq-or-lt-of-le}
+use mathlib.Core.Bool.{false}
+use Prim.Native.Nat.{ℕ, zero, suc, _+_, _-_, _*_, _%_, _^_, _≤_, _<_}
+use native.Mathlib.Nat.{mul-le-mul, mul-le-mul-right, lt-of-le-of-lt, le-trans, lt-of-not-le, not-le-of-lt, lt-of-mul-lt-mul-right, eq-of-mul-eq-mul-right, eq-or-lt-of-le}
 use native.Mathlib.Omega.{arith}
-use lib.Dec.{T, ltb, lit<, lit≤}
+use lib.Dec.{ltb, lit≤}
 use lib.Arith.{le→nltb}
 use lib.Pow.{pow-pos, pow-mono, pow-add}
-use lib.IntN.{ℤ}
-use lib.Ieee.{Float, inf, fin, binary64, odd, units, toBits, fits}
+use lib.Ieee.{inf, binary64, odd, units}
 use lib.Ieee.Exact.{HasValue, units-val}
 use lib.Ieee.Bits.{cond-no}
-use Rattle.math.specs.Hypot.{dropped, kept, round-root, count, hypot}
-use Rattle.math.specs.Parts.{exponent-of, significand-of, units-of}
-use Rattle.math.specs.Nearest.{Held, NearestRoot, edge, Rounds, past, near}
-use Rattle.math.proofs.Poly.{poly}
-use Rattle.math.proofs.Nearest.{nearest-root, sq-le, sq-mono}
-use Rattle.math.proofs.Values.{magnitude-fin}
-
--- ---- every finite double is held
-pub double-held : (s : Bool) (m : ℕ) (e : ℤ) → T (fits binary64 (fin s m e)) → Held (count m e)
-double-held s m e f =
-    let b = toBits binary64 (fin s m e) % 2 ^ 63 in
-    (significand-of b, exponent-of b, (sym (magnitude-fin s m e f .1), small b))
-  where
-    small : (b : ℕ) → significand-of b < 2 ^ 53
-    small b = omega arith
+use Rattle.hypotenuse.specs.Hypot.{dropped, kept, round-root}
+use Rattle.hypotenuse.specs.Nearest.{Held, NearestRoot, edge, Rounds, past, near}
+use Rattle.hypotenuse.proofs.Order.{le-or-lt, sq-le, sq-mono}
+use Rattle.hypotenuse.proofs.Nearest.{nearest-root}
 
 -- ---- the value
 pub finite-value : (s : ℕ) → kept binary64 s (dropped binary64 s) * 2 ^ dropped binary64 s < 2 ^ 2098
@@ -51,8 +39,8 @@ three k = go (k - 2044) refl
     go (suc zero) e = inr (inl (omega arith))
     go (suc (suc d)) e = inr (inr (omega arith))
 
--- U stands for 2 ^ 2045, the unit of the largest doubles
-module _ (s q k U : ℕ) (v : U ≡ 2 ^ 2045) (n : NearestRoot s q k) where
+-- U stands for 2 ^ 2045, the unit of the largest doubles, and E for the edge
+module _ (s q k U E : ℕ) (v : U ≡ 2 ^ 2045) (w : E ≡ (2 ^ 53 - 1) * U + 2 ^ 53 * U) (n : NearestRoot s q k) where
   largest : Held ((2 ^ 53 - 1) * U)
   largest = (2 ^ 53 - 1, 2045, (ap (λ (x : ℕ). (2 ^ 53 - 1) * x) v, omega arith))
 
@@ -66,11 +54,11 @@ module _ (s q k U : ℕ) (v : U ≡ 2 ^ 2045) (n : NearestRoot s q k) where
   U-pos = subst (λ (x : ℕ). 0 < x) (sym v) (pow-pos 2045)
 
   -- a number past the edge
-  reach : 2 ^ 53 * U ≤ q * 2 ^ k → (2 ^ 54 - 1) * U * ((2 ^ 54 - 1) * U) ≤ 4 * s
-  reach h = le-trans (sq-le (sum U (q * 2 ^ k) h)) (n .below ((2 ^ 53 - 1) * U) largest (less U (q * 2 ^ k) U-pos h))
+  reach : 2 ^ 53 * U ≤ q * 2 ^ k → E * E ≤ 4 * s
+  reach h = le-trans (sq-le (sum U (q * 2 ^ k) w h)) (n .below ((2 ^ 53 - 1) * U) largest (less U (q * 2 ^ k) U-pos h))
     where
-      sum : (U R : ℕ) → 2 ^ 53 * U ≤ R → (2 ^ 54 - 1) * U ≤ R + (2 ^ 53 - 1) * U
-      sum U R h = omega arith
+      sum : (U R : ℕ) → E ≡ (2 ^ 53 - 1) * U + 2 ^ 53 * U → 2 ^ 53 * U ≤ R → E ≤ R + (2 ^ 53 - 1) * U
+      sum U R w h = omega arith
 
       less : (U R : ℕ) → 0 < U → 2 ^ 53 * U ≤ R → (2 ^ 53 - 1) * U < R
       less U R p h = omega arith
@@ -115,12 +103,9 @@ module _ (s q k U : ℕ) (v : U ≡ 2 ^ 2045) (n : NearestRoot s q k) where
       )
       go (inr (inr b)) = absurd (not-le-of-lt h (large b))
 
-  short : q * 2 ^ k < 2 ^ 53 * U → 4 * s < (2 ^ 54 - 1) * U * ((2 ^ 54 - 1) * U)
+  short : q * 2 ^ k < 2 ^ 53 * U → 4 * s < E * E
   short h = go (eq-or-lt-of-le (under h .0))
     where
-      sum : (U : ℕ) → (2 ^ 53 - 1) * U + 2 ^ 53 * U ≡ (2 ^ 54 - 1) * U
-      sum U = omega arith
-
       top : 4 * s ≤ (q * 2 ^ k + 2 ^ 53 * U) * (q * 2 ^ k + 2 ^ 53 * U)
       top = n .above (2 ^ 53 * U) next h
 
@@ -130,23 +115,26 @@ module _ (s q k U : ℕ) (v : U ≡ 2 ^ 2045) (n : NearestRoot s q k) where
       other : (R Z : ℕ) → R < Z → Z ≡ R → ⊥
       other R Z l e = omega arith
 
-      go : (q * 2 ^ k ≡ (2 ^ 53 - 1) * U) ⊎ (q * 2 ^ k < (2 ^ 53 - 1) * U) → 4 * s < (2 ^ 54 - 1) * U * ((2 ^ 54 - 1) * U)
-      go (inl e) = subst (λ (x : ℕ). 4 * s < x * x) (ap (λ (x : ℕ). x + 2 ^ 53 * U) e ∙ sum U) (strict (eq-or-lt-of-le top))
+      go : (q * 2 ^ k ≡ (2 ^ 53 - 1) * U) ⊎ (q * 2 ^ k < (2 ^ 53 - 1) * U) → 4 * s < E * E
+      go (inl e) = subst (λ (x : ℕ). 4 * s < x * x) (ap (λ (x : ℕ). x + 2 ^ 53 * U) e ∙ sym w) (strict (eq-or-lt-of-le top))
         where
           strict : (4 * s ≡ (q * 2 ^ k + 2 ^ 53 * U) * (q * 2 ^ k + 2 ^ 53 * U)) ⊎ (4 * s < (q * 2 ^ k + 2 ^ 53 * U) * (q * 2 ^ k + 2 ^ 53 * U)) → 4 * s < (q * 2 ^ k + 2 ^ 53 * U) * (q * 2 ^ k + 2 ^ 53 * U)
           strict (inl t) = absurd (odd-one (under h .1 e) (n .tie (2 ^ 53 * U) next (other (q * 2 ^ k) (2 ^ 53 * U) h) (sym t)))
           strict (inr l) = l
-      go (inr l) = lt-of-le-of-lt top (sq-mono (subst (λ (x : ℕ). q * 2 ^ k + 2 ^ 53 * U < x) (sum U) (plus (2 ^ 53 * U) l)))
+      go (inr l) = lt-of-le-of-lt top (sq-mono (subst (λ (x : ℕ). q * 2 ^ k + 2 ^ 53 * U < x) (sym w) (plus (2 ^ 53 * U) l)))
         where
           plus : {a b : ℕ} (c : ℕ) → a < b → a + c < b + c
           plus c h = omega arith
+
+edge-is : edge ≡ (2 ^ 53 - 1) * 2 ^ 2045 + 2 ^ 53 * 2 ^ 2045
+edge-is = refl
 
 -- the rounded root is infinity where 4 * s is edge² or more, and a number below it everywhere else
 pub overflows : (s : ℕ) → edge * edge ≤ 4 * s → round-root binary64 s ≡ inf false
 overflows s h =
     let q = kept binary64 s (dropped binary64 s) in
     let k = dropped binary64 s in
-    infinite-value s (not-less (λ (l : q * 2 ^ k < 2 ^ 53 * 2 ^ 2045). not-le-of-lt (short s q k (2 ^ 2045) refl (nearest-root s) l) h))
+    infinite-value s (not-less (λ (l : q * 2 ^ k < 2 ^ 53 * 2 ^ 2045). not-le-of-lt (short s q k (2 ^ 2045) edge refl edge-is (nearest-root s) l) h))
   where
     not-less : {a b : ℕ} → (a < b → ⊥) → b ≤ a
     not-less n = omega arith
@@ -156,23 +144,11 @@ pub stays : (s : ℕ) → 4 * s < edge * edge
 stays s h =
     let q = kept binary64 s (dropped binary64 s) in
     let k = dropped binary64 s in
-    finite-value s (lt-of-not-le (λ (l : 2 ^ 53 * 2 ^ 2045 ≤ q * 2 ^ k). not-le-of-lt h (reach s q k (2 ^ 2045) refl (nearest-root s) l)))
+    finite-value s (lt-of-not-le (λ (l : 2 ^ 53 * 2 ^ 2045 ≤ q * 2 ^ k). not-le-of-lt h (reach s q k (2 ^ 2045) edge refl edge-is (nearest-root s) l)))
 
 pub round-root-rounds : (s : ℕ) → Rounds s (round-root binary64 s)
-round-root-rounds s = go (two (4 * s) (edge * edge))
+round-root-rounds s = go (le-or-lt (edge * edge) (4 * s))
   where
-    two : (a b : ℕ) → (b ≤ a) ⊎ (a < b)
-    two a b = at (b - a) refl
-      where
-        at : (d : ℕ) → b - a ≡ d → (b ≤ a) ⊎ (a < b)
-        at zero e = inl (omega arith)
-        at (suc d) e = inr (omega arith)
-
     go : (edge * edge ≤ 4 * s) ⊎ (4 * s < edge * edge) → Rounds s (round-root binary64 s)
     go (inl h) = past h (overflows s h)
     go (inr h) = near (kept binary64 s (dropped binary64 s)) (dropped binary64 s) h (stays s h) (nearest-root s)
-
--- THE THEOREM: `hypot` of two finite doubles is their correctly rounded root. With `double-held`, no double lies nearer.
-pub hypot-rounds : (a b : Bool) (m n : ℕ) (e d : ℤ) → Rounds (count m e * count m e + count n d * count n d) (hypot (fin a m e) (fin b n d))
-unfolding hypot
-hypot-rounds a b m n e d = round-root-rounds (count m e * count m e + count n d * count n d)

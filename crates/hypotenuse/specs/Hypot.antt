@@ -1,5 +1,6 @@
--- The correctly rounded `hypot` of IEEE 754-2019: the double nearest to the root of x² + y², at a tie the one whose last digit is even.
--- Everything is a whole number: a finite magnitude is counted in units of the smallest positive double, 2 ^ -1074. Definitions only.
+-- `hypot` of 01 (math.rs), correctly rounded by IEEE 754-2019, clause 9.2: the double nearest to the root of x² + y², at a tie the one whose
+-- last digit is even. `Nearest.antt` states that of it, and it is proved. Everything is a whole number: a finite magnitude is counted in units
+-- of the smallest positive double, 2 ^ -1074. Definitions only.
 use Prim.Native.Nat.{ℕ, zero, suc, _+_, _-_, _*_, _/_, _^_, compare}
 use mathlib.Core.Bool.{false, cond}
 use lib.Dec.{leb}
@@ -26,10 +27,11 @@ unfoldable pub round-root : Format → ℕ → Float
 unfolding dropped kept units
 round-root f s = units f false (kept f s (dropped f s)) (dropped f s)
 
--- a finite magnitude in units of the smallest double
+-- m * 2 ^ e in units of the smallest double: exact for every finite double (`count-exact`), subnormal ones too
 abbrev pub count : ℕ → ℤ → ℕ
 count m e = m * up e * 2 ^ low binary64 / down e
 
+-- 01, math.rs: an infinite operand gives infinity, even beside a NaN; else a NaN gives NaN; else the rounded root of the sum of the squares
 unfoldable pub hypot : Float → Float → Float
 unfolding round-root
 hypot (inf s) y = inf false

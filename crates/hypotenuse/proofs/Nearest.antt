@@ -1,22 +1,19 @@
 -- The definition is the nearest: `nearest-root`, for every s; and where it is infinity: `overflows`. Assumes nothing.
 use mathlib.Core.Path.{_≡_, refl, sym, ap, _∙_, subst}
 use mathlib.Core.Logic.{_⊎_, inl, inr}
-use mathlib.Core.Bool.{Bool, true, false, not, cond}
+use mathlib.Core.Bool.{not}
 use Prim.Native.Nat.{ℕ, zero, suc, _+_, _-_, _*_, _/_, _%_, _^_, _≤_, _<_, compare, Ordering, Ordering·lt, Ordering·eq, Ordering·gt}
-use native.Mathlib.Nat.{mul-le-mul, mul-le-mul-right, lt-of-lt-of-le, lt-of-le-of-lt, le-trans, le-of-lt, le-div-iff-mul-le, div-lt-iff-lt-mul, lt-of-not-le, not-le-of-lt, mul-assoc, le-of-mul-le-mul-right, lt-of-mul-lt-mul-right, le-antisymm, le-of-eq}
+use native.Mathlib.Nat.{eq-or-lt-of-le, mul-le-mul-right, lt-of-lt-of-le, lt-of-le-of-lt, le-trans, le-of-lt, le-div-iff-mul-le, div-lt-iff-lt-mul, mul-assoc, le-antisymm, le-of-eq}
 use native.Mathlib.Omega.{arith}
-use lib.Dec.{T, isLe, isEq, eqb, leb→le, nleb→lt, eqb→eq, eqb-refl, ltb, lt→ltb}
-use lib.Arith.{le→nltb}
-use lib.Pow.{pow-pos, pow-mono, pow-add, shl-lt}
-use lib.Ieee.{Float, inf, binary64, size, nearest, odd, units}
-use lib.Ieee.Digits.{size-lt, size-le, size-reaches}
-use lib.Ieee.Exact.{HasValue, units-val}
-use lib.Ieee.Bits.{cond-no}
-use Rattle.math.specs.Hypot.{whole-root, dropped, kept, round-root}
-use Rattle.math.specs.Nearest.{Held, NearestRoot, edge}
-use Rattle.math.proofs.Poly.{poly}
-use Rattle.math.proofs.Roots.{sq-lt}
-use Rattle.math.proofs.Whole.{Digits, whole-root-in, kept-is, nearest-lt, nearest-eq, nearest-gt}
+use lib.Dec.{T, isLe, isEq, eqb, leb→le, nleb→lt, eqb→eq, eqb-refl}
+use lib.Pow.{pow-pos, pow-mono, pow-add}
+use lib.Ieee.{binary64, size, nearest}
+use lib.Ieee.Digits.{size-lt, size-reaches}
+use Rattle.hypotenuse.specs.Hypot.{whole-root, dropped, kept}
+use Rattle.hypotenuse.specs.Nearest.{Held, NearestRoot}
+use Rattle.hypotenuse.proofs.Poly.{poly}
+use Rattle.hypotenuse.proofs.Order.{le-or-lt, sq-le, sq-mono, sq-lt}
+use Rattle.hypotenuse.proofs.Whole.{Digits, whole-root-in, kept-is}
 
 -- ---- the digits that the definition keeps
 from-size : (s k : ℕ) → size s ≤ 106 + 2 * k → (0 < k → 104 + 2 * k < size s) → Digits s k (whole-root 53 (s / 2 ^ (2 * k)))
@@ -71,63 +68,43 @@ choose s w M = go (compare (4 * s) M) refl (leb→le (4 * s) M) (nleb→lt (4 * 
 -- ---- no number that is held lies between the two neighbours
 module _ (w k : ℕ) (full : 0 < k → 2 ^ 52 ≤ w) where
   multiple : (Z v : ℕ) → Z ≡ v * 2 ^ k → (Z ≤ w * 2 ^ k) ⊎ ((w + 1) * 2 ^ k ≤ Z)
-  multiple Z v e = go (split v w)
+  multiple Z v e = go (le-or-lt v w)
     where
-      split : (v w : ℕ) → (v ≤ w) ⊎ (w + 1 ≤ v)
-      split v w = at (v - w) refl
-        where
-          at : (d : ℕ) → v - w ≡ d → (v ≤ w) ⊎ (w + 1 ≤ v)
-          at zero e = inl (omega arith)
-          at (suc d) e = inr (omega arith)
+      next : w < v → w + 1 ≤ v
+      next h = omega arith
 
-      go : (v ≤ w) ⊎ (w + 1 ≤ v) → (Z ≤ w * 2 ^ k) ⊎ ((w + 1) * 2 ^ k ≤ Z)
+      go : (v ≤ w) ⊎ (w < v) → (Z ≤ w * 2 ^ k) ⊎ ((w + 1) * 2 ^ k ≤ Z)
       go (inl h) = inl (subst (λ (x : ℕ). x ≤ w * 2 ^ k) (sym e) (mul-le-mul-right (2 ^ k) h))
-      go (inr h) = inr (subst (λ (x : ℕ). (w + 1) * 2 ^ k ≤ x) (sym e) (mul-le-mul-right (2 ^ k) h))
+      go (inr h) = inr (subst (λ (x : ℕ). (w + 1) * 2 ^ k ≤ x) (sym e) (mul-le-mul-right (2 ^ k) (next h)))
 
   apart : (Z : ℕ) → Held Z → (Z ≤ w * 2 ^ k) ⊎ ((w + 1) * 2 ^ k ≤ Z)
-  apart Z (z, j, (e, l)) = go (split k j)
+  apart Z (z, j, (e, l)) = go (le-or-lt k j)
     where
-      split : (k j : ℕ) → (k ≤ j) ⊎ (j + 1 ≤ k)
-      split k j = at (k - j) refl
-        where
-          at : (d : ℕ) → k - j ≡ d → (k ≤ j) ⊎ (j + 1 ≤ k)
-          at zero e = inl (omega arith)
-          at (suc d) e = inr (omega arith)
-
       back : (k j : ℕ) → k ≤ j → j ≡ j - k + k
       back k j h = omega arith
 
-      some : (k j : ℕ) → j + 1 ≤ k → 0 < k
+      digits : z < 2 ^ 53 → z ≤ 2 ^ 53
+      digits h = omega arith
+
+      some : (k j : ℕ) → j < k → 0 < k
       some k j h = omega arith
 
-      lower-pow : j + 1 ≤ k → 2 * 2 ^ j ≤ 2 ^ k
-      lower-pow h = subst (λ (x : ℕ). x ≤ 2 ^ k) (ap (λ (x : ℕ). 2 ^ x) (order j) ∙ pow-add 2 1 j) (pow-mono h)
+      lower-pow : j < k → 2 * 2 ^ j ≤ 2 ^ k
+      lower-pow h = subst (λ (x : ℕ). x ≤ 2 ^ k) (pow-add 2 1 j) (pow-mono (next h))
         where
-          order : (j : ℕ) → j + 1 ≡ 1 + j
-          order j = omega arith
+          next : j < k → 1 + j ≤ k
+          next h = omega arith
 
-      go : (k ≤ j) ⊎ (j + 1 ≤ k) → (Z ≤ w * 2 ^ k) ⊎ ((w + 1) * 2 ^ k ≤ Z)
+      go : (k ≤ j) ⊎ (j < k) → (Z ≤ w * 2 ^ k) ⊎ ((w + 1) * 2 ^ k ≤ Z)
       go (inl h) = multiple Z (z * 2 ^ (j - k)) (e ∙ ap (λ (x : ℕ). z * x) (ap (λ (x : ℕ). 2 ^ x) (back k j h) ∙ pow-add 2 (j - k) k) ∙ sym (mul-assoc z (2 ^ (j - k)) (2 ^ k)))
       go (inr h) =
           inl (subst (λ (x : ℕ). x ≤ w * 2 ^ k) (sym e)
-          (le-trans (mul-le-mul-right (2 ^ j) (le-of-lt l)) (le-trans (halved (2 ^ j) (2 ^ k) (lower-pow h)) (mul-le-mul-right (2 ^ k) (full (some k j h))))))
+          (le-trans (mul-le-mul-right (2 ^ j) (digits l)) (le-trans (halved (2 ^ j) (2 ^ k) (lower-pow h)) (mul-le-mul-right (2 ^ k) (full (some k j h))))))
         where
           halved : (J K : ℕ) → 2 * J ≤ K → 2 ^ 53 * J ≤ 2 ^ 52 * K
           halved J K a = omega arith
 
 -- ---- which is nearer, in plain numbers
-pub sq-le : {a b : ℕ} → a ≤ b → a * a ≤ b * b
-sq-le h = mul-le-mul h h
-
-pub sq-mono : {a b : ℕ} → a < b → a * a < b * b
-sq-mono {a} {b} h = lt-of-lt-of-le (first a) (sq-le (less h))
-  where
-    first : (a : ℕ) → a * a < (a + 1) * (a + 1)
-    first a = simp poly (omega arith)
-
-    less : a < b → a + 1 ≤ b
-    less h = omega arith
-
 module _ (s w K q : ℕ) (low : w * w * (K * K) ≤ s) (high : s < (w + 1) * (w + 1) * (K * K)) (c : Choice s w ((2 * w + 1) * (2 * w + 1) * (K * K)) q) where
   twice-low : (w * K + w * K) * (w * K + w * K) ≡ 4 * (w * w * (K * K))
   twice-low = simp poly (omega arith)
@@ -254,16 +231,12 @@ choice-range (lower e l) = omega arith
 choice-range (middle e m) = omega arith
 choice-range (upper e g) = omega arith
 
-held-of : (q k : ℕ) → q ≤ 2 ^ 53 → Held (q * 2 ^ k)
-held-of q k h = go (split (q / 2 ^ 53) refl)
+pub held-of : (q k : ℕ) → q ≤ 2 ^ 53 → Held (q * 2 ^ k)
+held-of q k h = go (eq-or-lt-of-le h)
   where
-    split : (x : ℕ) → q / 2 ^ 53 ≡ x → (q < 2 ^ 53) ⊎ (q ≡ 2 ^ 53)
-    split zero e = inl (omega arith)
-    split (suc x) e = inr (omega arith)
-
-    go : (q < 2 ^ 53) ⊎ (q ≡ 2 ^ 53) → Held (q * 2 ^ k)
-    go (inl l) = (q, k, (refl, l))
-    go (inr e) = (1, 53 + k, (ap (λ (x : ℕ). x * 2 ^ k) e ∙ sym (one (2 ^ (53 + k)) ∙ pow-add 2 53 k), omega arith))
+    go : (q ≡ 2 ^ 53) ⊎ (q < 2 ^ 53) → Held (q * 2 ^ k)
+    go (inr l) = (q, k, (refl, omega arith))
+    go (inl e) = (1, 53 + k, (ap (λ (x : ℕ). x * 2 ^ k) e ∙ sym (one (2 ^ (53 + k)) ∙ pow-add 2 53 k), omega arith))
       where
         one : (x : ℕ) → 1 * x ≡ x
         one x = omega arith

@@ -1,0 +1,119 @@
+-- The live vertices of a tidied front all have a velocity: a vertex without one stands between two edges that face opposite ways, which tidying takes out.
+use lib.Ieee
+use mathlib.Core.Path.{_≡_, refl, ap, _∙_, subst}
+use mathlib.Core.Bool.{Bool, true, false, cond, not, _&&_}
+use mathlib.Core.List.{List}
+use Prim.Native.Nat.{ℕ, _+_, _-_, _*_}
+use native.Mathlib.Omega.{arith}
+use native.Mathlib.Nat.{mul-comm, add-comm}
+use lib.Dec.{ltb, eqb}
+use borrow.Author.Tests.{ltb-true, ltb-false}
+use lib.Ieee.{Float, nan, inf, fin, binary64, lt, neg, sum, round, unlike, up, down}
+use Rattle.plane.specs.declared.PlanarPoint.{PlanarPoint}
+use Rattle.front.specs.declared.Line.{Line}
+use Rattle.front.specs.declared.Edge.{Edge}
+use Rattle.front.specs.declared.Place.{Place}
+use Rattle.front.specs.declared.Place.the-variants.{Nowhere, There}
+use Rattle.math.specs.Number
+use Rattle.math.specs.Number.{add, mul, div, one}
+use Rattle.plane.specs.Plane.{dot}
+use Rattle.front.specs.Thresholds.{opposite}
+use Rattle.front.specs.Lines.{direction, normal, velocity-by, velocity}
+use Rattle.front.specs.Edges.{edge, moved-by, vertex-by, vertex-of, vertex}
+use Rattle.front.specs.Demand.{links}
+use Rattle.front.specs.Velocity.{Turned-left, SameBits, Moves}
+use Rattle.front.proofs.Demand.Links.{live-prev, next-prev}
+use Rattle.front.proofs.Demand.Tidying.{Tidied, tidied-apart}
+use Rattle.front.proofs.Demand.Views.{alive-of}
+use Rattle.front.proofs.Demand.Lines.{Lined}
+
+-- ---- the sign of a product, the order of a sum
+
+unlike-not : (s t : Bool) → unlike (not s) (not t) ≡ unlike s t
+unlike-not true true = refl
+unlike-not true false = refl
+unlike-not false true = refl
+unlike-not false false = refl
+
+mul-neg : (x y : Float) → mul (neg x) (neg y) ≡ mul x y
+unfolding lib.Ieee.mul neg
+mul-neg nan y = refl
+mul-neg (inf s) nan = refl
+mul-neg (inf s) (inf t) = ap inf (unlike-not s t)
+mul-neg (inf s) (fin t n d) = ap (λ (b : Bool). cond (eqb n 0) nan (inf b)) (unlike-not s t)
+mul-neg (fin s m e) nan = refl
+mul-neg (fin s m e) (inf t) = ap (λ (b : Bool). cond (eqb m 0) nan (inf b)) (unlike-not s t)
+mul-neg (fin s m e) (fin t n d) = ap (λ (b : Bool). round binary64 b (m * up e * (n * up d)) (down e * down d)) (unlike-not s t)
+
+-- a difference, told from either side
+less : (s : Bool) (a b c : ℕ) (x y : Bool) → ltb a b ≡ x → ltb b a ≡ y
+    → cond x (round binary64 (not s) (b - a) c) (round binary64 (s && y) (a - b) c) ≡ cond y (round binary64 s (a - b) c) (round binary64 (not s && x) (b - a) c)
+less s a b c true true p q = absurd (omega (arith, ltb-true a b p, ltb-true b a q))
+less true a b c true false p q = refl
+less false a b c true false p q = refl
+less true a b c false true p q = refl
+less false a b c false true p q = refl
+less true a b c false false p q = ap (λ (k : ℕ). round binary64 false k c) (omega (arith, ltb-false a b p, ltb-false b a q))
+less false a b c false false p q = ap (λ (k : ℕ). round binary64 false k c) (omega (arith, ltb-false a b p, ltb-false b a q))
+
+sum-swap : (s : Bool) (a : ℕ) (t : Bool) (b c : ℕ) → sum binary64 s a t b c ≡ sum binary64 t b s a c
+unfolding sum
+sum-swap true a true b c = ap (λ (k : ℕ). round binary64 true k c) (add-comm a b)
+sum-swap false a false b c = ap (λ (k : ℕ). round binary64 false k c) (add-comm a b)
+sum-swap true a false b c = less true a b c (ltb a b) (ltb b a) refl refl
+sum-swap false a true b c = less false a b c (ltb a b) (ltb b a) refl refl
+
+same-infinity : (s t : Bool) → add (inf s) (inf t) ≡ add (inf t) (inf s)
+unfolding lib.Ieee.add
+same-infinity true true = refl
+same-infinity true false = refl
+same-infinity false true = refl
+same-infinity false false = refl
+
+add-swap : (x y : Float) → add x y ≡ add y x
+unfolding lib.Ieee.add
+add-swap nan nan = refl
+add-swap nan (inf t) = refl
+add-swap nan (fin t n d) = refl
+add-swap (inf s) nan = refl
+add-swap (inf s) (inf t) = same-infinity s t
+add-swap (inf s) (fin t n d) = refl
+add-swap (fin s m e) nan = refl
+add-swap (fin s m e) (inf t) = refl
+add-swap (fin s m e) (fin t n d) =
+    sum-swap s (m * up e * down d) t (n * up d * down e) (down e * down d)
+    ∙ ap (sum binary64 t (n * up d * down e) s (m * up e * down d)) (mul-comm (down e) (down d))
+
+pub same-bits : SameBits
+unfolding dot
+same-bits a b p q =
+    ap (λ (x : Float). add (mul x (b .n0)) (mul (a .n1) (b .n1))) (p .0)
+    ∙ ap (λ (x : Float). add (mul (neg (a .u1)) x) (mul (a .n1) (b .n1))) (q .0)
+    ∙ ap (λ (x : Float). add x (mul (a .n1) (b .n1))) (mul-neg (a .u1) (b .u1))
+    ∙ ap (λ (x : Float). add (mul (a .u1) (b .u1)) (mul x (b .n1))) (p .1)
+    ∙ ap (λ (x : Float). add (mul (a .u1) (b .u1)) (mul (a .u0) x)) (q .1)
+    ∙ add-swap (mul (a .u1) (b .u1)) (mul (a .u0) (b .u0))
+
+-- ---- a velocity
+
+has-velocity : (a b : Line) → Turned-left a → Turned-left b → lt (add one (dot (direction a) (direction b))) opposite ≡ false
+    → (v : PlanarPoint) × (velocity a b ≡ There v)
+unfolding velocity velocity-by
+has-velocity a b p q h =
+    let scale : Float = add one (dot (normal a) (normal b)) in (
+      _,
+      ap (λ (o : Bool). cond o Nowhere (There (record { east = div (add (a .n0) (b .n0)) scale; north = div (add (a .n1) (b .n1)) scale })))
+          (ap (λ (x : Float). lt (add one x) opposite) (same-bits a b p q) ∙ h),
+    )
+
+pub moves : (P : Line → Type 0) → ((l : Line) → P l → Turned-left l) → (f : List Edge) (t : Float) (events bound : ℕ) → Tidied f t events bound → Lined P f → Moves f
+unfolding vertex vertex-of vertex-by
+moves P left f t events bound T l x a now =
+    let p : ℕ = (edge f x) .previous in
+    let ap-live : links f .live p ≡ 1 = live-prev (links f) (T .kept .held .rs) (T .kept .held .rings) x a in
+    let n : (edge f p) .next ≡ x = next-prev (links f) (T .kept .held .rs) (T .kept .held .rings) x a in
+    let w : (v : PlanarPoint) × (velocity ((edge f p) .line) ((edge f x) .line) ≡ There v) =
+    has-velocity ((edge f p) .line) ((edge f x) .line)
+    (left ((edge f p) .line) (l .lines p (alive-of ((edge f p) .alive) ap-live))) (left ((edge f x) .line) (l .lines x (alive-of ((edge f x) .alive) a)))
+    (subst (λ (k : ℕ). lt (add one (dot (direction ((edge f p) .line)) (direction ((edge f k) .line)))) opposite ≡ false) n (tidied-apart f t events bound T p ap-live)) in
+    (moved-by ((edge f x) .start) (w .0) (Number.sub now ((edge f x) .since)), w .0, ap (vertex-by (edge f x) now) (w .1))

@@ -1,0 +1,138 @@
+-- The run of a sweep: what holds of one turn holds of each, and the events of all of them add up.
+use mathlib.Core.Path.{_≡_, refl, sym, ap, _∙_, subst}
+use mathlib.Core.Logic.{_≢_}
+use mathlib.Core.Bool.{Bool, true, false, cond, false≢true}
+use mathlib.Core.List.{List, [], _∷_, _++_}
+use Prim.Native.Nat.{ℕ, zero, suc, _+_, _*_, _≤_}
+use native.Mathlib.Omega.{arith}
+use lib.ListN.{length, take, length-append}
+use lib.Ieee.{Float, lt, le}
+use Rattle.front.specs.declared.Tidy.the-variants.{Settled}
+use Rattle.front.specs.declared.Event.the-variants.{Stalled}
+use Rattle.front.specs.declared.Sweep.{Sweep}
+use Rattle.math.specs.Number.{add, infinity, finite}
+use Rattle.error.specs.Refusals.{number}
+use Rattle.loops.specs.Loop.{rounds}
+use Rattle.front.specs.Sweeps.{sweep-tidied, sweep-step}
+use Rattle.front.specs.Tidying.{find-tidy, tidy}
+use Rattle.front.specs.Demand.{links, InRing, going, Turn, turn, turns, tidied, Looks, Leads, Each, Completed, found, kind, completed, events, tally}
+use Rattle.front.specs.Velocity.{Moves}
+use Rattle.loops.proofs.Laws.{steady, still, rounds-keep}
+use Rattle.front.proofs.Demand.Tallies.{Adds, adds-none, adds-then, Bound, bound-none, bound-then, by-any-point, completed-one}
+use Rattle.front.proofs.Demand.Sweeps.{State, Turned, turned, turn-settled, turn-rings, turn-moves, turn-seeks, turn-never}
+
+pub each : (P Q : Turn → Type 0) → ((t : Turn) → P t → Q t) → (ts : List Turn) → Each P ts → Each Q ts
+each P Q f [] h = tt
+each P Q f (t ∷ ts) h = (f t (h .0), each P Q f ts (h .1))
+
+-- ---- the loop's own turns
+
+step-going : (d : Float) (s : Sweep) (k : ℕ) → going s ≡ true → sweep-step d k s ≡ (turn d s) .to
+unfolding sweep-step
+step-going d s k w = ap (λ (b : Bool). cond b (sweep-tidied d s (tidy (s .edges) (s .travelled))) s) w
+
+step-done : (d : Float) (s : Sweep) → going s ≡ false → (k : ℕ) → sweep-step d k s ≡ s
+unfolding sweep-step
+step-done d s w k = ap (λ (b : Bool). cond b (sweep-tidied d s (tidy (s .edges) (s .travelled))) s) w
+
+same-step : (d : Float) (k m : ℕ) (s : Sweep) → sweep-step d k s ≡ sweep-step d m s
+unfolding sweep-step
+same-step d k m s = refl
+
+rounds-going : (d : Float) (s : Sweep) (m : ℕ) → going s ≡ true → rounds (sweep-step d) (suc m) s ≡ rounds (sweep-step d) m ((turn d s) .to)
+rounds-going d s m w = steady (sweep-step d) (same-step d) m s ∙ ap (rounds (sweep-step d) m) (step-going d s 0 w)
+
+pub rounds-done : (d : Float) (s : Sweep) (m : ℕ) → going s ≡ false → rounds (sweep-step d) m s ≡ s
+rounds-done d s m w = still (sweep-step d) s (step-done d s w) m
+
+module _ (d : Float) (near : finite d ≡ true) (b : ℕ) where
+  pub record TurnIs (t : Turn) : Type 0 where
+    pub rings : Looks t → (x : ℕ) → links ((tidied t) .edges) .live x ≡ 1 → InRing (links ((tidied t) .edges)) x
+    pub never : le d (add (t .from .travelled) infinity) ≡ true
+    pub before : going (t .to) ≡ true → lt (t .to .travelled) d ≡ true
+    pub settled : Looks t → ((tidied t) .changed ≡ false) × (find-tidy ((tidied t) .edges) (t .from .travelled) ≡ Settled)
+    pub moves : Looks t → Moves ((tidied t) .edges)
+    pub seeks : Looks t → found t ≢ Stalled
+    pub refused : number (t .to .refusal) ≡ 17 → (tidied t) .stalled ≡ true
+
+  -- the turns ts from the sweep s on, of m rounds that lead to z
+  pub record RunIs (m : ℕ) (s z : Sweep) (ts : List Turn) : Type 0 where
+    pub leads : Leads d s ts z
+    pub all : Each TurnIs ts
+    pub adds : Adds s z (events ts)
+    pub bound : (k : ℕ) → Bound b s (take k (events ts))
+    pub limit : length (events ts) ≤ m
+
+  no-turn : (m : ℕ) (s z : Sweep) → s ≡ z → s .collapses + s .divides ≤ b + 3 * s .joins → RunIs m s z []
+  unfolding events
+  no-turn m s z q h = record {
+    leads = q;
+    all = tt;
+    adds = subst (λ (y : Sweep). Adds s y []) q (adds-none s);
+    bound = λ k. none k;
+    limit = omega arith;
+  }
+    where
+      none : (k : ℕ) → Bound b s (take k [])
+      none zero = bound-none b s h
+      none (suc k) = bound-none b s h
+
+  module _ (i : ℕ) (s : Sweep) (h : State d near b i s) (w : going s ≡ true) where
+    abbrev t : Turn
+    t = turn d s
+
+    now : Turned d near b i s (t .to) (kind ((tidied t) .edges) (found t)) ((tidied t) .stalled)
+    now = turned d near b i s h w
+
+    now-adds : Adds s (t .to) (completed t)
+    unfolding completed
+    now-adds = now .adds
+
+    is : TurnIs t
+    is = record {
+      rings = turn-rings d near b i s h w;
+      never = turn-never d near b i s h w;
+      before = now .before;
+      settled = turn-settled d near b i s h w;
+      moves = turn-moves d near b i s h w;
+      seeks = turn-seeks d near b i s h w;
+      refused = now .refused;
+    }
+
+    turn-more : (m : ℕ) (z : Sweep) (ts : List Turn) → RunIs m (t .to) z ts → RunIs (suc m) s z (t ∷ ts)
+    unfolding events
+    turn-more m z ts r = record {
+      leads = (refl, refl, r .leads);
+      all = (is, r .all);
+      adds = adds-then s (t .to) z (completed t) (events ts) now-adds (r .adds);
+      bound = by-any-point (Bound b s) (completed t) (events ts) (completed-one t) (bound-none b s (h .bounded))
+          (λ k. bound-then b s (t .to) (completed t) (take k (events ts)) now-adds (r .bound k));
+      limit = omega (arith, length-append (completed t) (events ts), completed-one t, r .limit);
+    }
+
+  pub run-law : (m i : ℕ) (s : Sweep) → State d near b i s → RunIs m s (rounds (sweep-step d) m s) (turns d m s)
+  unfolding turns rounds
+  run-law zero i s h = no-turn 0 s s refl (h .bounded)
+  run-law (suc m) i s h = go (going s) refl (λ w. run-law m (suc i) ((turn d s) .to) (turned d near b i s h w .state))
+    where
+      go : (o : Bool) → going s ≡ o → (going s ≡ true → RunIs m ((turn d s) .to) (rounds (sweep-step d) m ((turn d s) .to)) (turns d m ((turn d s) .to)))
+          → RunIs (suc m) s (rounds (sweep-step d) (suc m) s) (cond o (turn d s ∷ turns d m ((turn d s) .to)) [])
+      go true w r = subst (λ (z : Sweep). RunIs (suc m) s z (turn d s ∷ turns d m ((turn d s) .to))) (sym (rounds-going d s m w)) (turn-more i s h w m _ _ (r w))
+      go false w r = no-turn (suc m) s (rounds (sweep-step d) (suc m) s) (sym (rounds-done d s (suc m) w)) (h .bounded)
+
+  step-state : (i : ℕ) (s : Sweep) → State d near b i s → State d near b (suc i) (sweep-step d i s)
+  unfolding sweep-step
+  step-state i s h = go (going s) refl
+    where
+      go : (o : Bool) → going s ≡ o → State d near b (suc i) (cond o ((turn d s) .to) s)
+      go true w = turned d near b i s h w .state
+      go false w = record {
+        bounded = h .bounded;
+        most = omega (arith, h .most);
+        all = λ e. absurd (false≢true (sym w ∙ e));
+        on = λ e. absurd (false≢true (sym w ∙ e));
+        other = h .other;
+      }
+
+  pub rounds-state : (s : Sweep) → State d near b 0 s → (k : ℕ) → State d near b k (rounds (sweep-step d) k s)
+  rounds-state s h k = rounds-keep (sweep-step d) (State d near b) s h step-state k

@@ -1,0 +1,54 @@
+-- What tidying leaves: nothing more to take out, and a velocity for every live vertex. So only tidying itself ever meets a vertex without one, and 17 inside the walk of an
+-- offset comes from there alone. Proved in proofs/Demand/Whole.antt. Assumes nothing.
+use mathlib.Core.Path.{_≡_}
+use mathlib.Core.Logic.{_≢_}
+use mathlib.Core.Bool.{true, false}
+use mathlib.Core.List.{List}
+use Prim.Native.Nat.{ℕ}
+use lib.Ieee.{Float, neg}
+use Rattle.plane.specs.declared.PlanarPoint.{PlanarPoint}
+use Rattle.front.specs.declared.Line.{Line}
+use Rattle.front.specs.declared.Edge.{Edge}
+use Rattle.front.specs.declared.Vertex.the-variants.{Moving}
+use Rattle.front.specs.declared.Tidy.the-variants.{Settled}
+use Rattle.front.specs.declared.Event.the-variants.{Stalled}
+use Rattle.front.specs.declared.Loaded.{Loaded}
+use Rattle.error.specs.Refusals.{number}
+use Rattle.math.specs.Number.{finite}
+use Rattle.plane.specs.Plane.{dot}
+use Rattle.front.specs.Lines.{direction, normal}
+use Rattle.front.specs.Edges.{vertex}
+use Rattle.front.specs.Tidying.{find-tidy}
+use Rattle.front.specs.Loading.{Loads}
+use Rattle.front.specs.Demand.{links, Turn, Looks, Each, tidied, found, run}
+
+-- ---- two lines
+
+-- the normal is the direction turned to the left, to the bit: what `Line::through` makes
+abbrev pub Turned-left : Line → Type 0
+Turned-left l = (l .n0 ≡ neg (l .u1)) × (l .n1 ≡ l .u0)
+
+-- n · n′ and u · u′ have the same bits: `velocity` has none exactly where `tidy_once` finds the two edges facing opposite ways
+abbrev pub SameBits : Type 0
+SameBits = (a b : Line) → Turned-left a → Turned-left b → dot (normal a) (normal b) ≡ dot (direction a) (direction b)
+
+-- ---- a front
+
+-- the start vertex of each live edge has a velocity, at every offset
+abbrev pub Moves : List Edge → Type 0
+Moves f = (x : ℕ) → links f .live x ≡ 1 → (t : Float) → (p : PlanarPoint) × (v : PlanarPoint) × (vertex f x t ≡ Moving p v)
+
+-- ---- the run of an offset
+
+pub record Velocity (d : Float) (l : Loaded) : Type 0 where
+  -- `tidy` never runs out of its 129 steps: the last one changed nothing, and nothing is left to take out
+  pub settled : Each (λ t. Looks t → ((tidied t) .changed ≡ false) × (find-tidy ((tidied t) .edges) (t .from .travelled) ≡ Settled)) (run d l)
+  -- the live vertices of a tidied front all have a velocity
+  pub moves : Each (λ t. Looks t → Moves ((tidied t) .edges)) (run d l)
+  -- so the search for the next event meets none without
+  pub seeks : Each (λ t. Looks t → found t ≢ Stalled) (run d l)
+  -- and neither does the event: a turn is refused by 17 only where tidying met a vertex without a velocity
+  pub refused : Each (λ t. number (t .to .refusal) ≡ 17 → (tidied t) .stalled ≡ true) (run d l)
+
+abbrev pub FrontVelocity : Type 0
+FrontVelocity = (d : Float) (origin : PlanarPoint) (n r : ℕ) (l : Loaded) → finite d ≡ true → Loads d origin n r l → Velocity d l

@@ -1,0 +1,9 @@
+pub mod Poly
+pub mod Order
+pub mod Units
+pub mod Whole
+pub mod Nearest
+pub mod Overflow
+pub mod Unique
+pub mod Correct
+pub mod Examples

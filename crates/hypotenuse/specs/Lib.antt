@@ -1,0 +1,2 @@
+pub mod Hypot
+pub mod Nearest

@@ -1,0 +1,1 @@
+// `hypot`: its definition in specs/, the theorem that it is correctly rounded in proofs/. No code.

@@ -1,0 +1,9 @@
+pub mod Walks
+pub mod Numerals
+pub mod Fields
+pub mod Written
+pub mod Below
+pub mod Refused
+pub mod Stream
+pub mod Answers
+pub mod Table

@@ -1,0 +1,247 @@
+-- An outline and an offset that are accepted pass 21 again; an offset accepted at a distance above 0 is simple and keeps clear of its source. Assumes nothing.
+use lib.Ieee
+use Prim.Native.Nat.{ℕ, suc, _+_, _*_, _/_, _%_, _<_}
+use native.Mathlib.Nat.{zero-add}
+use mathlib.Core.Path.{_≡_, refl, sym, _∙_, subst}
+use mathlib.Core.Bool.{Bool, true, false, cond, not, _&&_, false≢true}
+use mathlib.Core.List.{List}
+use native.Mathlib.Omega.{arith}
+use borrow.Author.Tests.{ltb-true, ne-eqb, not-true}
+use lib.Dec.{eqb}
+use lib.ListN.{length, replicate, length-replicate, getD}
+use lib.Ieee.{Float, nan, inf, fin, lt, le, eq, up, down}
+use Rattle.plane.specs.declared.PlanarPoint.{PlanarPoint}
+use Rattle.plane.specs.declared.Containment.{Containment}
+use Rattle.plane.specs.declared.Containment.the-variants.{Inside, OnBoundary, Outside}
+use Rattle.error.specs.declared.Refusal.{Refusal}
+use Rattle.error.specs.declared.Refusal.the-variants.{Granted, Splits, Collapses, Shape, Odd}
+use Rattle.ringcheck.specs.declared.Checked.{Checked}
+use Rattle.polygon.specs.declared.Outline.{Outline}
+use Rattle.polygon.specs.declared.NewOutline.{NewOutline}
+use Rattle.front.specs.declared.Edge.{Edge}
+use Rattle.front.specs.declared.Walk.{Walk}
+use Rattle.front.specs.declared.Sweep.{Sweep}
+use Rattle.offset.specs.declared.Piece.{Piece}
+use Rattle.offset.specs.declared.Piece.the-variants.{Shrunk, Failed, Whole}
+use Rattle.offset.specs.declared.Pieces.{Pieces}
+use Rattle.offset.specs.declared.Offset.{Offset}
+use Rattle.math.specs.Number
+use Rattle.math.specs.Number.{finite, zero-float}
+use Rattle.error.specs.Refusals.{number, values, granted}
+use Rattle.segment.specs.Segments.{segments-meet}
+use Rattle.ring.specs.Ring.{vertex-at, edge-end, signed-area, extent, stored-at}
+use Rattle.ring.specs.Store.{stored}
+use Rattle.ringcheck.specs.Checks.{check-ring}
+use Rattle.locate.specs.Contains.{ring-contains}
+use Rattle.locate.specs.Near.{nearest}
+use Rattle.locate.specs.Meet.{meet-step, meets-edge, rings-meet-step, rings-meet}
+use Rattle.polygon.specs.Outlines.{proper, no-outline, stored-outline, outline-refused, outline-of, outline-if, new-outline, outline, offset-tolerance, finite-step, check-finite}
+use Rattle.loops.proofs.Laws.{rounds-keep}
+use Rattle.front.proofs.Demand.Occ.{by-cases}
+use Rattle.front.proofs.Demand.Shapes.{and-left, and-right}
+use Rattle.offset.specs.Clear.{is-inside, is-outside, right-side, every-step, every-vertex}
+use Rattle.offset.specs.Rings.{offset-piece}
+use Rattle.offset.specs.Offsets.{check-distance, pieces-refused, expected, with-piece, visit-piece, pieces-refusal, pieces, clear-of, keeps-clear, offset-clear, offset-found, offset-finished, offset-swept, offset-counted, offset-plain, sweep, offset-from, offset-by, offset}
+use Rattle.offset.specs.Answers.{KeptClear, OffsetAccepted, OutlineProper, OffsetProper}
+use Rattle.offset.proofs.Choices.{either, both, all-pass, none-pass}
+use Rattle.offset.proofs.Visits.{visits-keep}
+use Rattle.offset.proofs.Storing.{stored-new}
+use Rattle.offset.proofs.Passes.{Passed, check-sound, PassedPiece, piece-sound}
+use Rattle.offset.proofs.Good.{Finite, GoodRing, good-ring, good-proper}
+use Rattle.offset.proofs.Walked.{GoodWalk, walk-good}
+
+-- ---- what the tests of a ring say of each vertex and each edge
+
+pub every-passes : (test : PlanarPoint → Bool) (qs : List Float) (m : ℕ) → every-vertex test qs m ≡ true → (k : ℕ) → k < m → test (vertex-at qs k) ≡ true
+unfolding every-vertex every-step
+every-passes test qs m q = all-pass (every-step test qs) (λ k. test (vertex-at qs k)) (λ k s. refl) m q
+
+pub none-meet : (ps : List Float) (n : ℕ) (qs : List Float) (m : ℕ) → rings-meet ps n qs m ≡ false
+    → (i k : ℕ) → i < n → k < m → segments-meet (vertex-at ps i) (edge-end ps n i) (vertex-at qs k) (edge-end qs m k) ≡ false
+unfolding rings-meet rings-meet-step meets-edge meet-step
+none-meet ps n qs m q i k h l =
+    let a : PlanarPoint = vertex-at ps i in
+    let b : PlanarPoint = edge-end ps n i in
+    none-pass (meet-step qs m a b) (λ j. segments-meet a b (vertex-at qs j) (edge-end qs m j)) (λ j s. refl) m
+    (none-pass (rings-meet-step ps n qs m) (λ j. meets-edge qs m (vertex-at ps j) (edge-end ps n j)) (λ j s. refl) n q i h) k l
+
+pub inside-is : (c : Containment) → is-inside c ≡ true → c ≡ Inside
+unfolding is-inside
+inside-is Inside q = refl
+inside-is OnBoundary q = absurd (false≢true q)
+inside-is Outside q = absurd (false≢true q)
+
+side-is : (outward : Bool) (c : Containment) → right-side outward c ≡ true → c ≡ cond outward Outside Inside
+unfolding right-side is-inside is-outside
+side-is true Inside q = absurd (false≢true q)
+side-is true OnBoundary q = absurd (false≢true q)
+side-is true Outside q = refl
+side-is false c q = inside-is c q
+
+-- ---- a ring stored as an outline
+
+pub outline-good : (ps : List Float) (n m : ℕ) (back : Bool) → Passed 128 ps n m back → ((k : ℕ) → k < n → Finite (vertex-at ps k))
+    → GoodRing 128 ((stored-outline ps m back) .points) ((stored-outline ps m back) .count)
+unfolding stored-outline
+outline-good ps n m back p f =
+    let out : List Float = replicate 256 zero-float in
+    good-ring 128 ps n m back (stored ps m back 0 out) p f
+    (λ k l. subst (λ (i : ℕ). vertex-at (stored ps m back 0 out) i ≡ stored-at ps m back k) (zero-add k)
+    (stored-new ps m back 0 out (omega (arith, length-replicate 256 zero-float, p .fits)) k l))
+
+-- ---- an outline from numbers
+
+record AllFinite (ps : List Float) (n : ℕ) (r : Refusal) : Type 0 where
+  all : granted r ≡ true → (i : ℕ) → i < n → finite (getD ps i nan) ≡ true
+
+finite-all : (ps : List Float) → AllFinite ps (length ps) (check-finite ps)
+unfolding check-finite finite-step granted number values
+finite-all ps =
+    rounds-keep (finite-step ps) (AllFinite ps) Granted (record { all = λ q i l. absurd (omega arith) })
+    (λ k r h. either (AllFinite ps (suc k)) (granted r)
+    (λ g. either (AllFinite ps (suc k)) (finite (getD ps k nan))
+    (λ f. record { all = λ q i l. by-cases i k (λ e. rw e f) (λ e. h .all g i (omega arith)) })
+    (λ f. record { all = λ q. absurd (false≢true q) }))
+    (λ g. record { all = λ q. absurd (false≢true (sym g ∙ q)) }))
+    (length ps)
+
+-- the vertices of numbers that pass question 2
+pub finite-vertices : (ps : List Float) → granted (check-finite ps) ≡ true → (k : ℕ) → 2 * k + 1 < length ps → Finite (vertex-at ps k)
+unfolding vertex-at
+finite-vertices ps q k l = record { east = finite-all ps .all q (2 * k) (omega arith); north = finite-all ps .all q (2 * k + 1) l }
+
+pub record GoodNew (a : NewOutline) : Type 0 where
+  pub good : granted (a .refusal) ≡ true → GoodRing 128 (a .shape .points) (a .shape .count)
+
+refused-good : (r : Refusal) → granted r ≡ false → GoodNew (outline-refused r)
+unfolding outline-refused
+refused-good r h = record { good = λ q. absurd (false≢true (sym h ∙ q)) }
+
+pub outline-sound : (ps : List Float) → GoodNew (outline ps)
+unfolding outline outline-if new-outline outline-of granted number values
+outline-sound ps =
+    let n : ℕ = length ps / 2 in
+    let c : Checked = check-ring 128 0 ps n in
+    both GoodNew (eqb (length ps % 2) 0)
+    (either GoodNew (granted (check-finite ps))
+    (λ f. either GoodNew (granted (c .refusal))
+    (λ h. record { good = λ q. outline-good ps n (c .count) (c .back) (check-sound 128 0 ps n h) (λ k l. finite-vertices ps f k (omega arith)) })
+    (λ h. refused-good (c .refusal) h))
+    (λ f. refused-good (check-finite ps) f))
+    (refused-good Odd refl)
+
+pub outline-proper : OutlineProper
+outline-proper ps q = good-proper 128 ((outline ps) .shape .points) ((outline ps) .shape .count) (outline-sound ps .good q)
+
+-- ---- an offset
+
+record GoodPieces (p : Pieces) : Type 0 where
+  good : p .found ≡ true → GoodRing 128 (p .shape .points) (p .shape .count)
+
+refused-pieces : (r : Refusal) → GoodPieces (pieces-refused r)
+unfolding pieces-refused
+refused-pieces r = record { good = λ q. absurd (false≢true q) }
+
+with-good : (outward : Bool) (d : Float) (w : Walk) (s : Pieces) (p : Piece) → GoodWalk w → PassedPiece 128 w p → GoodPieces s → GoodPieces (with-piece outward d w s p)
+unfolding with-piece
+with-good outward d w s Shrunk g z h = h
+with-good outward d w s (Failed r) g z h = refused-pieces r
+with-good outward d w s (Whole n back) g z h =
+    both GoodPieces (expected outward (signed-area (w .points) (w .count)) && not (s .found))
+    (record { good = λ q. outline-good (w .points) (w .count) n back z (g .all) }) (refused-pieces (Splits d))
+
+pieces-good : (f : List Edge) (origin : PlanarPoint) (outward : Bool) (d tolerance : Float) → GoodPieces (pieces f origin outward d tolerance)
+unfolding pieces visit-piece
+pieces-good f origin outward d tolerance =
+    visits-keep GoodPieces pieces-refusal (visit-piece outward d tolerance) f d origin GoodWalk (walk-good f d origin)
+    (λ place w g s h. with-good outward d w s (offset-piece 128 place d tolerance w) g (piece-sound 128 place d tolerance w) h)
+    (record { refusal = Granted; found = false; shape = no-outline }) (record { good = λ q. absurd (false≢true q) })
+
+-- the answer is accepted only where its shape is good and keeps clear
+record Accepted (o : Outline) (outward : Bool) (d : Float) (r : Refusal) (q : Outline) : Type 0 where
+  good : granted r ≡ true → GoodRing 128 (q .points) (q .count)
+  clear : granted r ≡ true → KeptClear o outward d q
+
+record AcceptedNew (o : Outline) (outward : Bool) (d : Float) (a : NewOutline) : Type 0 where
+  accepted : Accepted o outward d (a .refusal) (a .shape)
+
+module _ (o : Outline) (outward : Bool) (d : Float) where
+  refused-accepted : (r : Refusal) → granted r ≡ false → AcceptedNew o outward d (outline-refused r)
+  unfolding outline-refused
+  refused-accepted r h = record { accepted = record { good = λ q. absurd (false≢true (sym h ∙ q)); clear = λ q. absurd (false≢true (sym h ∙ q)) } }
+
+  abbrev tolerance : Float
+  tolerance = offset-tolerance d (extent (o .points) (o .count))
+
+  kept-clear : (q : Outline) → GoodRing 128 (q .points) (q .count)
+      → keeps-clear outward (Number.sub d tolerance) (o .points) (o .count) (q .points) (q .count) ≡ true
+      → rings-meet (q .points) (q .count) (o .points) (o .count) ≡ false → KeptClear o outward d q
+  unfolding keeps-clear clear-of offset-tolerance
+  kept-clear q g a b =
+      let least : Float = Number.sub d tolerance in
+      let each : (k : ℕ) → k < q .count → clear-of outward least (o .points) (o .count) (vertex-at (q .points) k) ≡ true =
+      every-passes (clear-of outward least (o .points) (o .count)) (q .points) (q .count) a in
+      record {
+        simple = g .simple;
+        side = λ k l. side-is outward (ring-contains (o .points) (o .count) (vertex-at (q .points) k))
+            (and-left (right-side outward (ring-contains (o .points) (o .count) (vertex-at (q .points) k))) (le least ((nearest (o .points) (o .count) (vertex-at (q .points) k)) .gap)) (each k l));
+        gap = λ k l. and-right (right-side outward (ring-contains (o .points) (o .count) (vertex-at (q .points) k))) (le least ((nearest (o .points) (o .count) (vertex-at (q .points) k)) .gap)) (each k l);
+        apart = none-meet (q .points) (q .count) (o .points) (o .count) b;
+      }
+
+  finished-accepted : (f : List Edge) → AcceptedNew o outward d (offset-finished o outward d tolerance f)
+  unfolding offset-finished offset-found offset-clear granted number values
+  finished-accepted f =
+      let p : Pieces = pieces f (vertex-at (o .points) 0) outward d tolerance in
+      let q : Outline = p .shape in
+      let a : Bool = keeps-clear outward (Number.sub d tolerance) (o .points) (o .count) (q .points) (q .count) in
+      let b : Bool = rings-meet (q .points) (q .count) (o .points) (o .count) in
+      either (AcceptedNew o outward d) (granted (p .refusal))
+      (λ h. either (AcceptedNew o outward d) (p .found)
+      (λ z.
+      let g : GoodRing 128 (q .points) (q .count) = pieces-good f (vertex-at (o .points) 0) outward d tolerance .good z in
+      either (AcceptedNew o outward d) (a && not b)
+      (λ e. record { accepted = record { good = λ t. g; clear = λ t. kept-clear q g (and-left a (not b) e) (not-true b (and-right a (not b) e)) } })
+      (λ e. refused-accepted (Splits d) refl))
+      (λ z. refused-accepted (Collapses d) refl))
+      (λ h. refused-accepted (p .refusal) h)
+
+  swept-accepted : (s : Sweep) → AcceptedNew o outward d (offset-swept o outward d s)
+  unfolding offset-swept
+  swept-accepted s = either (AcceptedNew o outward d) (granted (s .refusal)) (λ h. finished-accepted (s .edges)) (λ h. refused-accepted (s .refusal) h)
+
+record AcceptedOffset (o : Outline) (outward : Bool) (d : Float) (a : Offset) : Type 0 where
+  proper : granted (a .refusal) ≡ true → proper 128 (a .shape .points) (a .shape .count) ≡ true
+  clear : granted (a .refusal) ≡ true → eq d zero-float ≡ false → KeptClear o outward d (a .shape)
+
+plain-accepted : (o : Outline) (outward : Bool) (d : Float) (r : Refusal) → granted r ≡ false → AcceptedOffset o outward d (offset-plain r no-outline)
+unfolding offset-plain
+plain-accepted o outward d r h = record { proper = λ q. absurd (false≢true (sym h ∙ q)); clear = λ q. absurd (false≢true (sym h ∙ q)) }
+
+offset-accepts : (o : Outline) (outward : Bool) (d : Float) → AcceptedOffset o outward d (offset o outward d)
+unfolding offset offset-by offset-plain offset-from offset-counted granted number values
+offset-accepts o outward d =
+    either (AcceptedOffset o outward d) (proper 128 (o .points) (o .count))
+    (λ p. either (AcceptedOffset o outward d) (granted (check-distance d))
+    (λ g. either (AcceptedOffset o outward d) (eq d zero-float)
+    (λ z. record { proper = λ q. p; clear = λ q e. absurd (false≢true (sym e ∙ z)) })
+    (λ z.
+    let n : NewOutline = offset-swept o outward d (sweep o outward d) in
+    let a : Accepted o outward d (n .refusal) (n .shape) = swept-accepted o outward d (sweep o outward d) .accepted in
+    record { proper = λ q. good-proper 128 (n .shape .points) (n .shape .count) (a .good q); clear = λ q e. a .clear q }))
+    (λ g. plain-accepted o outward d (check-distance d) g))
+    (λ p. plain-accepted o outward d Shape refl)
+
+pub offset-proper : OffsetProper
+offset-proper o outward d q = offset-accepts o outward d .proper q
+
+-- a distance above 0 is not 0
+pub above-zero : (d : Float) → lt zero-float d ≡ true → eq d zero-float ≡ false
+unfolding lt eq lib.Ieee.ofBits
+above-zero nan q = refl
+above-zero (inf s) q = refl
+above-zero (fin true m e) q = absurd (false≢true q)
+above-zero (fin false m e) q = rw (ne-eqb (m * up e * 1) (0 * down e) (λ h. omega (arith, ltb-true (0 * down e) (m * up e * 1) q))) refl
+
+pub offset-accepted : OffsetAccepted
+offset-accepted o outward d q h = offset-accepts o outward d .clear q (above-zero d h)

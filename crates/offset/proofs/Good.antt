@@ -1,0 +1,122 @@
+-- A ring that passes 4 to 9 with finite numbers passes 21 and `check_simple` as it is stored. Assumes nothing.
+use lib.Ieee
+use Prim.Native.Nat.{ℕ, _+_, _-_, _*_, _/_, _%_, _^_, _≤_, _<_}
+use mathlib.Core.Path.{_≡_, refl, _∙_, subst}
+use mathlib.Core.Bool.{Bool, true, false, cond, _&&_, _||_, false≢true}
+use mathlib.Core.List.{List}
+use native.Mathlib.Omega.{arith}
+use borrow.Author.Tests.{ltb-true, ltb-false, le-leb, eq-eqb}
+use lib.Dec.{ltb, eqb}
+use lib.ListN.{getD}
+use lib.Ieee.{Float, nan, inf, fin, lt, le, eq, up, down}
+use Rattle.plane.specs.declared.PlanarPoint.{PlanarPoint}
+use Rattle.ringcheck.specs.declared.Crossing.{Crossing}
+use Rattle.ringcheck.specs.declared.Crossing.the-variants.{Simple}
+use Rattle.math.specs.Number.{finite, abs}
+use Rattle.ring.specs.Ring.{vertex-at, following, source, stored-at}
+use Rattle.ring.proofs.Vertices.{following-lt}
+use Rattle.ringcheck.specs.Simple.{crossing, pair-step, edge-step, check-simple}
+use Rattle.ringcheck.specs.Checks.{max-coordinate, beyond}
+use Rattle.polygon.specs.Outlines.{in-range-step, in-range, proper}
+use Rattle.front.proofs.Demand.Occ.{by-cases}
+use Rattle.offset.proofs.Choices.{rounds-same, pass-all}
+use Rattle.offset.proofs.Passes.{Within, Passed}
+
+-- ---- `check_simple` of the ring as it is stored
+
+module _ (ps qs : List Float) (n : ℕ) (back : Bool) (same : (k : ℕ) → k < n → vertex-at qs k ≡ stored-at ps n back k) where
+  read : (k : ℕ) → k < n → stored-at qs n false k ≡ stored-at ps n back k
+  unfolding stored-at source
+  read k l = same k l
+
+  crossing-same : (i j : ℕ) → i < n → j < n → crossing qs n false i j ≡ crossing ps n back i j
+  unfolding crossing
+  crossing-same i j h l = rw (read i h, read (following n i) (following-lt n i h), read j l, read (following n j) (following-lt n j l)) refl
+
+  pair-same : (i : ℕ) → i < n → (k : ℕ) → k < n - (i + 1) → (s : Crossing) → pair-step qs n false i k s ≡ pair-step ps n back i k s
+  unfolding pair-step
+  pair-same i h k l s = rw (crossing-same i (i + 1 + k) h (omega arith)) refl
+
+  edge-same : (i : ℕ) → i < n → (s : Crossing) → edge-step qs n false i s ≡ edge-step ps n back i s
+  unfolding edge-step
+  edge-same i h s = rw (rounds-same (pair-step qs n false i) (pair-step ps n back i) (n - (i + 1)) Simple (pair-same i h)) refl
+
+  simple-same : check-simple qs n false ≡ check-simple ps n back
+  unfolding check-simple
+  simple-same = rounds-same (edge-step qs n false) (edge-step ps n back) n Simple edge-same
+
+-- ---- question 21
+
+pub record Finite (v : PlanarPoint) : Type 0 where
+  pub east : finite (v .east) ≡ true
+  pub north : finite (v .north) ≡ true
+
+within-le : (x : Float) → finite x ≡ true → beyond x ≡ false → le (abs x) max-coordinate ≡ true
+unfolding beyond finite le lt eq abs lib.Ieee.ofBits
+within-le nan f q = absurd (false≢true f)
+within-le (inf s) f q = absurd (false≢true f)
+within-le (fin s m e) f q = go (ltb a b) refl
+  where
+    a : ℕ
+    a = m * up e * 1
+
+    b : ℕ
+    b = 1953125 * 2 ^ 9 * down e
+
+    go : (x : Bool) → ltb a b ≡ x → (x || (eqb a b && true)) ≡ true
+    go true p = refl
+    go false p = rw (eq-eqb a b (omega (arith, ltb-false a b p, ltb-false b a q))) refl
+
+-- ---- the stored ring
+
+pub record GoodRing (room : ℕ) (qs : List Float) (n : ℕ) : Type 0 where
+  pub three : 3 ≤ n
+  pub fits : n ≤ room
+  pub finite : (k : ℕ) → k < n → Finite (vertex-at qs k)
+  pub within : (k : ℕ) → k < n → Within (vertex-at qs k)
+  pub simple : check-simple qs n false ≡ Simple
+
+module _ (room : ℕ) (qs : List Float) (n : ℕ) (g : GoodRing room qs n) where
+  number-near : (i : ℕ) → i < 2 * n → le (abs (getD qs i nan)) max-coordinate ≡ true
+  unfolding vertex-at
+  number-near i l = by-cases (i % 2) 0
+      (λ e. subst (λ (j : ℕ). le (abs (getD qs j nan)) max-coordinate ≡ true) {x = 2 * (i / 2)} (omega arith)
+      (within-le (getD qs (2 * (i / 2)) nan) (g .finite (i / 2) (omega arith) .east) (g .within (i / 2) (omega arith) .east)))
+      (λ e. subst (λ (j : ℕ). le (abs (getD qs j nan)) max-coordinate ≡ true) {x = 2 * (i / 2) + 1} (omega arith)
+      (within-le (getD qs (2 * (i / 2) + 1) nan) (g .finite (i / 2) (omega arith) .north) (g .within (i / 2) (omega arith) .north)))
+
+  pub good-proper : proper room qs n ≡ true
+  unfolding proper in-range in-range-step
+  good-proper =
+      rw (le-leb 3 n (g .three), le-leb n room (g .fits), pass-all (in-range-step qs) (λ i. le (abs (getD qs i nan)) max-coordinate) (λ i s. refl) (2 * n) number-near) refl
+
+  -- another list with the same vertices
+  pub good-same : (rs : List Float) → ((k : ℕ) → k < n → vertex-at rs k ≡ vertex-at qs k) → GoodRing room rs n
+  unfolding stored-at source
+  good-same rs same = record {
+    three = g .three;
+    fits = g .fits;
+    finite = λ k l. rw (same k l) (g .finite k l);
+    within = λ k l. rw (same k l) (g .within k l);
+    simple = simple-same qs rs n false same ∙ g .simple;
+  }
+
+source-less : (n : ℕ) (back : Bool) (k : ℕ) → k < n → source n back k < n
+unfolding source
+source-less n true k l = go (ltb 0 k) refl
+  where
+    go : (b : Bool) → ltb 0 k ≡ b → cond b (n - k) k < n
+    go true e = omega (arith, ltb-true 0 k e)
+    go false e = l
+source-less n false k l = l
+
+pub good-ring : (room : ℕ) (ps : List Float) (n m : ℕ) (back : Bool) (qs : List Float) → Passed room ps n m back → ((k : ℕ) → k < n → Finite (vertex-at ps k))
+    → ((k : ℕ) → k < m → vertex-at qs k ≡ stored-at ps m back k) → GoodRing room qs m
+unfolding stored-at
+good-ring room ps n m back qs p f same = record {
+  three = p .three;
+  fits = p .fits;
+  finite = λ k l. rw (same k l) (f (source m back k) (omega (arith, source-less m back k l, p .kept)));
+  within = λ k l. rw (same k l) (p .within (source m back k) (source-less m back k l));
+  simple = simple-same ps qs m back same ∙ p .simple;
+}

@@ -1,0 +1,95 @@
+-- What holds of the answers about an outline, whatever the shape, the side and the distance, finite or not: demand 3 of what is handed back, the empty shape beside a refusal,
+-- the counts before loading, and what an accepted offset has passed. Proved in `proofs/Answers.antt` and `proofs/Accepted.antt`. Assumes nothing.
+use Prim.Native.Nat.{ℕ, _+_, _*_, _≤_, _<_}
+use mathlib.Core.Path.{_≡_}
+use mathlib.Core.Bool.{Bool, true, false, cond}
+use mathlib.Core.List.{List, [], _∷_}
+use lib.ListN.{replicate}
+use lib.Ieee.{Float, lt, le, eq}
+use Rattle.plane.specs.declared.Containment.the-variants.{Inside, Outside}
+use Rattle.error.specs.declared.Refusal.{Refusal}
+use Rattle.error.specs.declared.Refusal.the-variants.{Granted, Shape}
+use Rattle.ringcheck.specs.declared.Crossing.the-variants.{Simple}
+use Rattle.polygon.specs.declared.Outline.{Outline}
+use Rattle.math.specs.Number
+use Rattle.math.specs.Number.{zero-float, one, add, mul}
+use Rattle.error.specs.Refusals.{number, values, granted}
+use Rattle.segment.specs.Segments.{segments-meet}
+use Rattle.ring.specs.Ring.{vertex-at, edge-end, extent}
+use Rattle.ringcheck.specs.Simple.{check-simple}
+use Rattle.locate.specs.Contains.{ring-contains}
+use Rattle.locate.specs.Near.{nearest}
+use Rattle.polygon.specs.Outlines.{outline, proper, no-outline, relative-tolerance}
+use Rattle.offset.specs.Offsets.{offset, offset-plain, check-distance, outline-load}
+
+-- ---- demand 3 of an answer
+
+-- of n vertices in r rings: the refusal u, and c collapses, e divisions and j joins beside it
+pub record AnswerDemand (n r : ℕ) (u : Refusal) (c e j : ℕ) : Type 0 where
+  pub counts : c + e + 2 * r ≤ n + 3 * j
+  pub most : c + e + j ≤ 387
+  -- 18 only when 4j ≥ 387 - n + 2r, and it carries 387
+  pub unfinished : number u ≡ 18 → 387 + 2 * r ≤ n + 4 * j
+  pub carried : number u ≡ 18 → (values u) .wholes ≡ 387 ∷ []
+
+abbrev pub OffsetDemand : Type 0
+OffsetDemand =
+    (o : Outline) (outward : Bool) (d : Float) → proper 128 (o .points) (o .count) ≡ true →
+    AnswerDemand (o .count) 1 ((offset o outward d) .refusal) ((offset o outward d) .collapses) ((offset o outward d) .divides) ((offset o outward d) .joins)
+
+-- ---- the shape beside a refusal is empty
+
+pub record EmptyOutline (o : Outline) : Type 0 where
+  pub count : o .count ≡ 0
+  pub numbers : o .points ≡ replicate 256 zero-float
+
+abbrev pub OutlineEmpty : Type 0
+OutlineEmpty = (ps : List Float) → granted ((outline ps) .refusal) ≡ false → EmptyOutline ((outline ps) .shape)
+
+abbrev pub OffsetEmpty : Type 0
+OffsetEmpty = (o : Outline) (outward : Bool) (d : Float) → granted ((offset o outward d) .refusal) ≡ false → EmptyOutline ((offset o outward d) .shape)
+
+-- ---- before the front is loaded the counts are 0: `offset-plain` has no events
+
+pub record BeforeLoading (o : Outline) (outward : Bool) (d : Float) : Type 0 where
+  -- 21
+  pub improper : proper 128 (o .points) (o .count) ≡ false → offset o outward d ≡ offset-plain Shape no-outline
+  -- 13 and 14
+  pub refused : proper 128 (o .points) (o .count) ≡ true → granted (check-distance d) ≡ false → offset o outward d ≡ offset-plain (check-distance d) no-outline
+  -- 0 and −0: the source itself
+  pub unmoved : proper 128 (o .points) (o .count) ≡ true → eq d zero-float ≡ true → offset o outward d ≡ offset-plain Granted o
+  -- 15 and 16 while loading
+  pub loading : proper 128 (o .points) (o .count) ≡ true → granted (check-distance d) ≡ true → eq d zero-float ≡ false →
+      granted ((outline-load o outward d) .refusal) ≡ false → offset o outward d ≡ offset-plain ((outline-load o outward d) .refusal) no-outline
+
+abbrev pub OffsetBefore : Type 0
+OffsetBefore = (o : Outline) (outward : Bool) (d : Float) → BeforeLoading o outward d
+
+-- ---- an offset q of o, accepted at a distance d above 0
+
+pub record KeptClear (o : Outline) (outward : Bool) (d : Float) (q : Outline) : Type 0 where
+  -- it has passed `check_simple`
+  pub simple : check-simple (q .points) (q .count) false ≡ Simple
+  -- each vertex tests on the right side
+  pub side : (k : ℕ) → k < q .count → ring-contains (o .points) (o .count) (vertex-at (q .points) k) ≡ cond outward Outside Inside
+  -- its gap is at least distance − 1e-9 × (1 + distance + extent)
+  pub gap : (k : ℕ) → k < q .count →
+      le (Number.sub d (mul relative-tolerance (add (add one d) (extent (o .points) (o .count))))) ((nearest (o .points) (o .count) (vertex-at (q .points) k)) .gap) ≡ true
+  -- no edge meets the source
+  pub apart : (i k : ℕ) → i < q .count → k < o .count →
+      segments-meet (vertex-at (q .points) i) (edge-end (q .points) (q .count) i) (vertex-at (o .points) k) (edge-end (o .points) (o .count) k) ≡ false
+
+abbrev pub OffsetAccepted : Type 0
+OffsetAccepted =
+    (o : Outline) (outward : Bool) (d : Float) → granted ((offset o outward d) .refusal) ≡ true → lt zero-float d ≡ true →
+    KeptClear o outward d ((offset o outward d) .shape)
+
+-- ---- what is accepted passes 21 again
+
+abbrev pub OutlineProper : Type 0
+OutlineProper = (ps : List Float) → granted ((outline ps) .refusal) ≡ true → proper 128 ((outline ps) .shape .points) ((outline ps) .shape .count) ≡ true
+
+abbrev pub OffsetProper : Type 0
+OffsetProper =
+    (o : Outline) (outward : Bool) (d : Float) → granted ((offset o outward d) .refusal) ≡ true →
+    proper 128 ((offset o outward d) .shape .points) ((offset o outward d) .shape .count) ≡ true

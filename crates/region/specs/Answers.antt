@@ -1,0 +1,95 @@
+-- What holds of the answers about a region, whatever the shape and the distance, finite or not: demand 3 of what is handed back, the empty shape beside a refusal,
+-- the counts before loading, and what an accepted inset has passed. Proved in `proofs/Answers.antt` and `proofs/Accepted.antt`. Assumes nothing.
+use Prim.Native.Nat.{ℕ, suc, _≤_, _<_}
+use mathlib.Core.Path.{_≡_}
+use mathlib.Core.Bool.{true, false}
+use mathlib.Core.List.{List}
+use lib.ListN.{replicate}
+use lib.Ieee.{Float, lt, le, eq}
+use Rattle.plane.specs.declared.Containment.the-variants.{Inside}
+use Rattle.error.specs.declared.Refusal.the-variants.{Granted, Shape}
+use Rattle.ringcheck.specs.declared.Crossing.the-variants.{Simple}
+use Rattle.polygon.specs.declared.Outline.{Outline}
+use Rattle.region.specs.declared.Region.{Region}
+use Rattle.region.specs.declared.NewRegion.{NewRegion}
+use Rattle.math.specs.Number
+use Rattle.math.specs.Number.{zero-float, one, add, mul}
+use Rattle.error.specs.Refusals.{granted}
+use Rattle.segment.specs.Segments.{segments-meet}
+use Rattle.ring.specs.Ring.{vertex-at, edge-end}
+use Rattle.ringcheck.specs.Simple.{check-simple}
+use Rattle.polygon.specs.Outlines.{relative-tolerance}
+use Rattle.offset.specs.Offsets.{check-distance}
+use Rattle.offset.specs.Answers.{AnswerDemand, EmptyOutline}
+use Rattle.region.specs.Regions.{no-region, ring-points, ring-count, region-contains, distance-to-boundary, region-extent}
+use Rattle.region.specs.Checks.{check-region, proper-region, region, region-given, without-holes}
+use Rattle.region.specs.Insets.{region-plain, load-region, region-inset}
+use Rattle.region.specs.Demand.{edges-of}
+
+-- ---- demand 3 of an inset: of all the edges, in one ring more than there are holes
+
+abbrev pub InsetDemand : Type 0
+InsetDemand =
+    (r : Region) (d : Float) → proper-region r ≡ true →
+    AnswerDemand (edges-of r (r .holes)) (suc (r .holes)) ((region-inset r d) .refusal) ((region-inset r d) .collapses) ((region-inset r d) .divides) ((region-inset r d) .joins)
+
+-- ---- the shape beside a refusal is empty
+
+pub record EmptyRegion (r : Region) : Type 0 where
+  pub outer : EmptyOutline (r .outer)
+  pub numbers : r .points ≡ replicate 512 zero-float
+  pub counts : r .counts ≡ replicate 8 0
+  pub holes : r .holes ≡ 0
+
+pub record EmptyNewRegion (a : NewRegion) : Type 0 where
+  pub empty : granted (a .refusal) ≡ false → EmptyRegion (a .shape)
+
+-- of a region from numbers, of one from outlines, and of one without holes
+pub record RegionEmpty : Type 0 where
+  pub loaded : (lengths : List ℕ) (ps : List Float) → EmptyNewRegion (region lengths ps)
+  pub given : (o : Outline) (hs : List Outline) → EmptyNewRegion (region-given o hs)
+  pub alone : (o : Outline) → EmptyNewRegion (without-holes o)
+
+abbrev pub InsetEmpty : Type 0
+InsetEmpty = (r : Region) (d : Float) → granted ((region-inset r d) .refusal) ≡ false → EmptyRegion ((region-inset r d) .shape)
+
+-- ---- before the front is loaded the counts are 0: `region-plain` has no events
+
+pub record InsetBeforeLoading (r : Region) (d : Float) : Type 0 where
+  -- 21
+  pub improper : proper-region r ≡ false → region-inset r d ≡ region-plain Shape no-region
+  -- 13 and 14
+  pub refused : proper-region r ≡ true → granted (check-distance d) ≡ false → region-inset r d ≡ region-plain (check-distance d) no-region
+  -- 0 and −0: the source itself
+  pub unmoved : proper-region r ≡ true → eq d zero-float ≡ true → region-inset r d ≡ region-plain Granted r
+  -- 15 and 16 while loading
+  pub loading : proper-region r ≡ true → granted (check-distance d) ≡ true → eq d zero-float ≡ false →
+      granted ((load-region r (vertex-at (r .outer .points) 0) d) .refusal) ≡ false →
+      region-inset r d ≡ region-plain ((load-region r (vertex-at (r .outer .points) 0) d) .refusal) no-region
+
+abbrev pub InsetBefore : Type 0
+InsetBefore = (r : Region) (d : Float) → InsetBeforeLoading r d
+
+-- ---- an inset q of r, accepted at a distance d above 0: its ring k is the outer one for 0, and hole k − 1 from 1 on
+
+pub record RegionKeptClear (r : Region) (d : Float) (q : Region) : Type 0 where
+  -- each ring has passed `check_simple`, and the rings 10 to 12
+  pub simple : (k : ℕ) → k ≤ q .holes → check-simple (ring-points q k) (ring-count q k) false ≡ Simple
+  pub region : check-region q ≡ Granted
+  -- each vertex tests inside
+  pub side : (k i : ℕ) → k ≤ q .holes → i < ring-count q k → region-contains r (vertex-at (ring-points q k) i) ≡ Inside
+  -- its gap is at least distance − 1e-9 × (1 + distance + extent)
+  pub gap : (k i : ℕ) → k ≤ q .holes → i < ring-count q k →
+      le (Number.sub d (mul relative-tolerance (add (add one d) (region-extent r)))) (distance-to-boundary r (vertex-at (ring-points q k) i)) ≡ true
+  -- no edge of a ring k meets an edge of a ring l of the source
+  pub apart : (k l i j : ℕ) → k ≤ q .holes → l ≤ r .holes → i < ring-count q k → j < ring-count r l →
+      segments-meet (vertex-at (ring-points q k) i) (edge-end (ring-points q k) (ring-count q k) i) (vertex-at (ring-points r l) j) (edge-end (ring-points r l) (ring-count r l) j) ≡ false
+
+abbrev pub InsetAccepted : Type 0
+InsetAccepted =
+    (r : Region) (d : Float) → granted ((region-inset r d) .refusal) ≡ true → lt zero-float d ≡ true → RegionKeptClear r d ((region-inset r d) .shape)
+
+-- ---- what is accepted passes 21 again
+
+abbrev pub InsetProper : Type 0
+InsetProper = (r : Region) (d : Float) → granted ((region-inset r d) .refusal) ≡ true → proper-region ((region-inset r d) .shape) ≡ true
