@@ -25,20 +25,30 @@ use Rattle.loops.specs.Loop.{rounds}
 -- ---- `tidy_once`, its search: the first live slot at which something is to be taken out, and what
 
 -- `Tidy::Empty`: an edge of no length that does not grow; a slot whose vertex has no velocity is skipped, and that is no error
+unfoldable pub empty : Float → Float → Float → Bool
+empty t l rate = le l (mul on-edge (add one t)) && le rate tie
+
 unfoldable pub tidy-length : ℕ → Float → Length → Tidy
 tidy-length slot t NoLength = Settled
-tidy-length slot t (Long l rate) = cond (le l (mul on-edge (add one t)) && le rate tie) (Empty slot) Settled
+tidy-length slot t (Long l rate) = cond (empty t l rate) (Empty slot) Settled
 
 -- `Tidy::Parallel`: an edge and its next on one line, facing opposite ways (a spike) or the same way (a straight vertex)
+unfoldable pub opposed : PlanarPoint → PlanarPoint → Bool
+opposed u w = lt (add one (dot u w)) opposite
+
+unfoldable pub same-way : PlanarPoint → PlanarPoint → Bool
+same-way u w = lt (abs (cross u w)) parallel && lt zero-float (dot u w)
+
 unfoldable pub tidy-turn : List Edge → ℕ → Float → PlanarPoint → PlanarPoint → Tidy
-tidy-turn f slot t u w =
-    cond (lt (add one (dot u w)) opposite) (Spike slot)
-    (cond (lt (abs (cross u w)) parallel && lt zero-float (dot u w)) (Straight slot) (tidy-length slot t (edge-length f slot t)))
+tidy-turn f slot t u w = cond (opposed u w) (Spike slot) (cond (same-way u w) (Straight slot) (tidy-length slot t (edge-length f slot t)))
 
 -- `Tidy::Ring`: a ring of fewer than three edges
+unfoldable pub few : ℕ → Bool
+few n = ltb n 3
+
 unfoldable pub tidy-edge : List Edge → ℕ → Float → Edge → Tidy
 tidy-edge f slot t e =
-    cond (ltb (ring-len f slot) 3) (SmallRing slot)
+    cond (few (ring-len f slot)) (SmallRing slot)
     (tidy-turn f slot t (direction (edge-line e)) (direction (edge-line (edge f (e .next)))))
 
 unfoldable pub tidy-at : List Edge → ℕ → Float → Edge → Tidy
@@ -123,5 +133,5 @@ tidy f t = rounds (tidy-step t) 129 (altered f)
 
 -- opens every definition above, for a proof that computes with all of them
 unfoldable pub open-tidying : Unit {0}
-unfolding tidy-length tidy-turn tidy-edge tidy-at unless-found find-step find-tidy drop-on drop-step drop-ring drop-straight midpoint meeting-or drop-both spike-to spike-from drop-spike tidy-by tidy-once tidy-step tidy
+unfolding empty tidy-length opposed same-way tidy-turn few tidy-edge tidy-at unless-found find-step find-tidy drop-on drop-step drop-ring drop-straight midpoint meeting-or drop-both spike-to spike-from drop-spike tidy-by tidy-once tidy-step tidy
 open-tidying = tt

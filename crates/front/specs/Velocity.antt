@@ -20,7 +20,7 @@ use Rattle.front.specs.Lines.{direction, normal}
 use Rattle.front.specs.Edges.{vertex}
 use Rattle.front.specs.Tidying.{find-tidy}
 use Rattle.front.specs.Loading.{Loads}
-use Rattle.front.specs.Demand.{links, Turn, Looks, Each, tidied, found, run}
+use Rattle.front.specs.Demand.{links, Looks, Each, tidied, found, run}
 
 -- ---- two lines
 

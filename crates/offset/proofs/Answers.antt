@@ -36,7 +36,8 @@ use Rattle.front.specs.Demand.{Demand}
 use Rattle.front.specs.Loading.{outer}
 use Rattle.front.proofs.Demand.Whole.{loads-other}
 use Rattle.front.proofs.Demand.Small.{down-pos}
-use Rattle.front.proofs.Demand.Shapes.{Proper, proper-is, and-left}
+use Rattle.front.proofs.Demand.Shapes.{Proper, proper-is}
+use Rattle.front.proofs.Demand.Choice.{and-left}
 use Rattle.offset.specs.Offsets.{max-distance, check-distance, pieces-refused, expected, with-piece, visit-piece, pieces-refusal, pieces, keeps-clear, offset-clear, offset-found, offset-finished, offset-swept, offset-counted, offset-plain, outline-load, sweep, offset-from, offset-by, offset}
 use Rattle.offset.specs.Rings.{offset-piece}
 use Rattle.offset.specs.Answers.{AnswerDemand, OffsetDemand, EmptyOutline, OutlineEmpty, OffsetEmpty, OffsetBefore}

@@ -24,7 +24,7 @@ use Rattle.front.specs.Edges.{vertex, collapse}
 use Rattle.front.specs.Tidying.{tidy}
 use Rattle.front.specs.NextEvent.{next-event}
 use Rattle.front.specs.Splitting.{free, one-ring}
-use Rattle.front.specs.Sweeps.{sweep-refused, sweep-ended, swept-collapse, swept-divide, swept-join, swept-split, split-into, split-at, split, sweep-event, sweep-tidied, sweep-step, sweep-from, finished, offset-rings}
+use Rattle.front.specs.Sweeps.{sweep-refused, sweep-ended, swept-collapse, swept-divide, swept-join, swept-split, split-into, split-of, split-at, split, sweep-event, sweep-tidied, sweep-step, sweep-from, finished, offset-rings}
 use Rattle.offset.proofs.Choices.{both}
 use Rattle.offset.proofs.Other.{Other, granted-other, splits-other}
 
@@ -40,7 +40,7 @@ module _ (d : Float) (s : Sweep) where
   refused-other r h = record { other = h }
 
   split-other : (f : List Edge) (at by : ℕ) (t : Float) (v : Vertex) → OtherSweep (split-at d s f at by t v)
-  unfolding split-at split-into swept-split swept-divide swept-join number values
+  unfolding split-at split-of split-into swept-split swept-divide swept-join number values
   split-other f at by t NoVertex = refused-other (Splits d) (splits-other d)
   split-other f at by t (Moving p v) =
       both OtherSweep (ltb (free f) 128) (both OtherSweep (one-ring f at by) (record { other = granted-other }) (record { other = granted-other }))

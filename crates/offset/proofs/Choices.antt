@@ -6,7 +6,7 @@ use native.Mathlib.Omega.{arith}
 use Rattle.loops.specs.Loop.{rounds}
 use Rattle.loops.proofs.Laws.{rounds-keep}
 use Rattle.front.proofs.Demand.Occ.{by-cases}
-use Rattle.front.proofs.Demand.Shapes.{and-left, and-right}
+use Rattle.front.proofs.Demand.Choice.{and-left, and-right}
 
 pub either : {A : Type 0} (P : A → Type 0) (b : Bool) {x y : A} → (b ≡ true → P x) → (b ≡ false → P y) → P (cond b x y)
 either P true p q = p refl

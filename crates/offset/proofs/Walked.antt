@@ -17,7 +17,7 @@ use Rattle.front.specs.Edges.{edge, vertex}
 use Rattle.front.specs.Finished.{walk-lost, walk-on, walk-vertex, walk-step, walk-from, walk}
 use Rattle.loops.proofs.Laws.{rounds-keep}
 use Rattle.front.proofs.Demand.Occ.{by-cases}
-use Rattle.front.proofs.Demand.Shapes.{and-left, and-right}
+use Rattle.front.proofs.Demand.Choice.{and-left, and-right}
 use Rattle.offset.proofs.Choices.{either, both}
 use Rattle.offset.proofs.Storing.{vertex-length, vertex-here, vertex-there}
 use Rattle.offset.proofs.Good.{Finite}

@@ -28,7 +28,7 @@ use Rattle.ring.specs.Ring.{vertex-at}
 use Rattle.ringcheck.specs.Simple.{check-simple}
 use Rattle.locate.specs.Meet.{rings-meet}
 use Rattle.polygon.specs.Outlines.{stored-outline, offset-tolerance}
-use Rattle.front.proofs.Demand.Shapes.{and-left, and-right}
+use Rattle.front.proofs.Demand.Choice.{and-left, and-right}
 use Rattle.offset.specs.Clear.{is-inside, every-vertex}
 use Rattle.offset.specs.Rings.{offset-piece}
 use Rattle.offset.specs.Offsets.{check-distance}

@@ -8,7 +8,6 @@ use lib.Dec.{leb}
 use lib.Ieee.{Float}
 use Rattle.plane.specs.declared.PlanarPoint.{PlanarPoint}
 use Rattle.region.specs.declared.Region.{Region}
-use Rattle.front.specs.declared.Loaded.{Loaded}
 use Rattle.error.specs.Refusals.{number}
 use Rattle.ring.specs.Ring.{vertex-at}
 use Rattle.loops.specs.Loop.{rounds}
@@ -19,7 +18,7 @@ use Rattle.region.specs.Checks.{proper-step, proper-region}
 use Rattle.region.specs.Insets.{load-hole-step, load-region}
 use Rattle.region.specs.Demand.{edges-of, RegionDemand}
 use Rattle.offset.proofs.Choices.{all-pass}
-use Rattle.front.proofs.Demand.Shapes.{and-left, and-right}
+use Rattle.front.proofs.Demand.Choice.{and-left, and-right}
 use Rattle.front.proofs.Demand.Whole.{front-demand, loads-enough, loads-other}
 
 hole-proper : (r : Region) (n : ℕ) → rounds (proper-step r) n true ≡ true → (k : ℕ) → k < n → proper 32 (hole-points r k) (hole-count r k) ≡ true

@@ -1,7 +1,7 @@
 -- A collapse and a split on a tidied front keep the rings, and pay for themselves.
 use mathlib.Core.Path.{_≡_, refl, sym, ap, _∙_, subst}
 use mathlib.Core.Logic.{_≢_}
-use mathlib.Core.Bool.{Bool, true, false, cond}
+use mathlib.Core.Bool.{Bool, true, false}
 use mathlib.Core.List.{List}
 use Prim.Native.Nat.{ℕ, suc, _+_, _<_}
 use native.Mathlib.Omega.{arith}
@@ -21,6 +21,7 @@ use Rattle.front.proofs.Demand.Links.{Out, Met, RingsOf, live-next, liv
 use Rattle.front.proofs.Demand.Steps.{Parted}
 use Rattle.front.proofs.Demand.Views.{live-in, remove-length, start-same, start-length, split-length, split-met}
 use Rattle.loops.proofs.Laws.{rounds-keep}
+use Rattle.front.proofs.Demand.Choice.{by-test}
 use Rattle.front.proofs.Demand.Kept.{Kept, out-of, starts, one-ring-same}
 use Rattle.front.proofs.Demand.Tidying.{Tidied}
 
@@ -53,12 +54,9 @@ collapse-law f at events bound x t k moves a =
 
 free-turn : (f : List Edge) (k s : ℕ) → (s < 128 → links f .live s ≡ 0) → free-step f k s < 128 → links f .live (free-step f k s) ≡ 0
 unfolding free-step
-free-turn f k s h = go (ltb s 128) refl ((edge f k) .alive) refl
-  where
-    go : (b : Bool) → ltb s 128 ≡ b → (c : Bool) → (edge f k) .alive ≡ c → cond b s (cond c 128 k) < 128 → links f .live (cond b s (cond c 128 k)) ≡ 0
-    go true q c e = h
-    go false q true e = λ l. absurd (omega arith)
-    go false q false e = λ l. ap bit e
+free-turn f k s h =
+    by-test (λ (n : ℕ). n < 128 → links f .live n ≡ 0) (ltb s 128) (λ q. h)
+    (λ q. by-test (λ (n : ℕ). n < 128 → links f .live n ≡ 0) ((edge f k) .alive) (λ e l. absurd (omega arith)) (λ e l. ap bit e))
 
 -- the slot found, if one is, is not alive
 pub free-law : (f : List Edge) → free f < 128 → links f .live (free f) ≡ 0

@@ -1,6 +1,6 @@
 -- Lines are only ever copied: what holds of the line of every live edge of a front of 128 edges holds after each step.
 use mathlib.Core.Path.{_≡_, sym, _∙_, subst}
-use mathlib.Core.Bool.{Bool, true, false, cond, not, _&&_, false≢true}
+use mathlib.Core.Bool.{true, false, not, _&&_, false≢true}
 use mathlib.Core.List.{List}
 use Prim.Native.Nat.{ℕ, _<_}
 use native.Mathlib.Omega.{arith}
@@ -19,6 +19,7 @@ use Rattle.front.specs.Edges.{edge, with-next, with-previous, with-start
 use Rattle.front.specs.Tidying.{Drop, drop-on, drop-step, drop-ring, drop-straight, meeting-or, drop-both, spike-to, spike-from, drop-spike, find-tidy, tidy-by, tidy-once, tidy-step, tidy}
 use Rattle.front.specs.Lines.{meeting}
 use Rattle.front.specs.Splitting.{copy-of, cut, split-linked}
+use Rattle.front.proofs.Demand.Choice.{by-test}
 use Rattle.front.proofs.Demand.Occ.{by-cases}
 use Rattle.front.proofs.EdgeLaws.{edge-out}
 use Rattle.front.proofs.Demand.Views.{edge-here, edge-there, set-length}
@@ -63,10 +64,7 @@ module _ (P : Line → Type 0) where
 
   remove-lined : (f : List Edge) (x : ℕ) → Lined f → Lined (remove f x)
   unfolding remove unlinked
-  remove-lined f x l =
-      let p : ℕ = (edge f x) .previous in
-      let n : ℕ = (edge f x) .next in
-      kill-lined (set-previous (set-next f p n) n p) x (previous-lined (set-next f p n) n p (next-lined f p n l))
+  remove-lined f x l = kill-lined _ _ (previous-lined _ _ _ (next-lined _ _ _ l))
 
   anchor-lined : (f : List Edge) (s : ℕ) (t : Float) (v : Vertex) → Lined f → Lined ((anchor-at f s t v) .edges)
   unfolding anchor-at altered stalled
@@ -75,11 +73,7 @@ module _ (P : Line → Type 0) where
 
   then-lined : (x : ℕ) (s : Front) → Lined (s .edges) → Lined ((then-remove x s) .edges)
   unfolding then-remove altered
-  then-lined x s l = go (s .stalled)
-    where
-      go : (b : Bool) → Lined ((cond b s (altered (remove (s .edges) x))) .edges)
-      go true = l
-      go false = remove-lined (s .edges) x l
+  then-lined x s l = by-test (λ (r : Front). Lined (r .edges)) (s .stalled) (λ q. l) (λ q. remove-lined (s .edges) x l)
 
   pub collapse-lined : (f : List Edge) (x : ℕ) (t : Float) → Lined f → Lined ((collapse f x t) .edges)
   unfolding collapse anchor
@@ -91,15 +85,11 @@ module _ (P : Line → Type 0) where
 
   drop-turn : (x k : ℕ) (s : Drop) → Lined (s .edges) → Lined ((drop-step x k s) .edges)
   unfolding drop-step drop-on
-  drop-turn x k s l = go (s .closed)
-    where
-      go : (b : Bool) → Lined ((cond b s (drop-on x ((edge (s .edges) (s .at)) .next) (kill (s .edges) (s .at)))) .edges)
-      go true = l
-      go false = kill-lined (s .edges) (s .at) l
+  drop-turn x k s l = by-test (λ (r : Drop). Lined (r .edges)) (s .closed) (λ q. l) (λ q. kill-lined (s .edges) (s .at) l)
 
   drop-lined : (f : List Edge) (x : ℕ) → Lined f → Lined (drop-ring f x)
   unfolding drop-ring
-  drop-lined f x l = rounds-keep (drop-step x) (λ i s. Lined (s .edges)) (record { edges = f; at = x; closed = false }) l (drop-turn x) 128
+  drop-lined f x l = rounds-keep (drop-step x) (λ i s. Lined (s .edges)) (record { edges = f; at = x; closed = false }) l (drop-turn x) _
 
   both-lined : (f : List Edge) (x n after : ℕ) (p : PlanarPoint) (t : Float) → Lined f → Lined ((drop-both f x n after p t) .edges)
   unfolding drop-both altered
@@ -130,28 +120,15 @@ module _ (P : Line → Type 0) where
 
   turn-lined : (t : Float) (k : ℕ) (s : Front) → Lined (s .edges) → Lined ((tidy-step t k s) .edges)
   unfolding tidy-step tidy-once
-  turn-lined t k s l = go (s .changed && not (s .stalled))
-    where
-      go : (b : Bool) → Lined ((cond b (tidy-by (s .edges) t (find-tidy (s .edges) t)) s) .edges)
-      go true = by-lined (s .edges) t (find-tidy (s .edges) t) l
-      go false = l
+  turn-lined t k s l = by-test (λ (r : Front). Lined (r .edges)) (s .changed && not (s .stalled)) (λ q. by-lined (s .edges) t (find-tidy (s .edges) t) l) (λ q. l)
 
   pub tidy-lined : (f : List Edge) (t : Float) → Lined f → Lined ((tidy f t) .edges)
   unfolding tidy altered
-  tidy-lined f t l = rounds-keep (tidy-step t) (λ i s. Lined (s .edges)) (altered f) l (turn-lined t) 129
+  tidy-lined f t l = rounds-keep (tidy-step t) (λ i s. Lined (s .edges)) (altered f) l (turn-lined t) _
 
   -- ---- a split
 
   pub split-lined : (f : List Edge) (v e s : ℕ) (p : PlanarPoint) (t : Float) → (edge f e) .alive ≡ true → Lined f
       → Lined (split-linked f v e s ((edge f v) .previous) (edge f e) p t)
   unfolding split-linked cut copy-of
-  split-lined f v e s p t a l =
-      let before : ℕ = (edge f v) .previous in
-      let after : ℕ = (edge f e) .next in
-      let copy : Edge = copy-of (edge f e) before p t in
-      let f₀ : List Edge = set f s copy in
-      let f₁ : List Edge = set-next f₀ before s in
-      let f₂ : List Edge = set-previous f₁ after s in
-      let f₃ : List Edge = set-next f₂ e v in
-      let f₄ : List Edge = set-previous f₃ v e in
-      start-lined f₄ v p t (previous-lined f₃ v e (next-lined f₂ e v (previous-lined f₁ after s (next-lined f₀ before s (put f s copy (λ q. l .lines e a) l)))))
+  split-lined f v e s p t a l = start-lined _ _ _ _ (previous-lined _ _ _ (next-lined _ _ _ (previous-lined _ _ _ (next-lined _ _ _ (put _ _ _ (λ q. l .lines e a) l)))))

@@ -1,9 +1,9 @@
 -- Loading puts each ring into the slots after those in use.
 use mathlib.Core.Path.{_≡_, refl, sym, ap, _∙_, subst}
 use mathlib.Core.Logic.{_≢_, _⊎_, inl, inr}
-use mathlib.Core.Bool.{Bool, true, false, cond, true≢false, false≢true}
+use mathlib.Core.Bool.{Bool, true, false, true≢false, false≢true}
 use mathlib.Core.List.{List, [], _∷_}
-use Prim.Native.Nat.{ℕ, suc, _+_, _-_, _*_, _≤_, _<_}
+use Prim.Native.Nat.{ℕ, suc, _+_, _*_, _≤_, _<_}
 use native.Mathlib.Omega.{arith}
 use native.Mathlib.Decide.{decLt}
 use lib.Dec.{ltb}
@@ -17,7 +17,7 @@ use Rattle.front.specs.declared.Through.{Through}
 use Rattle.front.specs.declared.Through.the-variants.{NoLine, Along}
 use Rattle.front.specs.declared.Loaded.{Loaded}
 use Rattle.error.specs.declared.Refusal.{Refusal}
-use Rattle.error.specs.declared.Refusal.the-variants.{Granted, Slots, Collapses}
+use Rattle.error.specs.declared.Refusal.the-variants.{Granted, Collapses}
 use Rattle.error.specs.Refusals.{granted, number, values}
 use Rattle.ring.specs.Ring.{following}
 use Rattle.loops.specs.Loop.{rounds}
@@ -25,6 +25,7 @@ use Rattle.front.specs.Edges.{unused, blank, edge}
 use Rattle.front.specs.Lines.{through}
 use Rattle.front.specs.Loading.{no-front, loaded-nothing, load-refused, load-vertex, loaded-edge, load-line, load-edge, load-step, ring-begun, load-ring}
 use Rattle.front.specs.Demand.{bit, links}
+use Rattle.front.proofs.Demand.Choice.{by-test}
 use Rattle.front.proofs.Demand.Occ.{by-cases}
 use Rattle.front.proofs.Demand.Rings.{Ring, spare, occs-nil}
 use Rattle.front.proofs.Demand.Links.{RingsOf}
@@ -50,10 +51,10 @@ slot-of : (f : List Edge) (first c k : ℕ) (l : Line) (a : PlanarPoint) → k <
 unfolding loaded-edge following
 slot-of f first c k l a h q = record {
   live = ap (λ (e : Edge). bit (e .alive)) q;
-  on = λ g. ap (λ (e : Edge). e .next) q ∙ ap (λ (b : Bool). first + cond b (k + 1) 0) (lt-ltb (k + 1) c (omega arith)) ∙ omega arith;
-  last = λ g. ap (λ (e : Edge). e .next) q ∙ ap (λ (b : Bool). first + cond b (k + 1) 0) (le-ltb (k + 1) c (omega arith)) ∙ omega arith;
-  back = λ g. ap (λ (e : Edge). suc (e .previous)) q ∙ ap (λ (b : Bool). suc (first + cond b (c - 1) (k - 1))) (ne-eqb k 0 (λ i. omega arith)) ∙ omega arith;
-  wrap = λ g. ap (λ (e : Edge). suc (e .previous)) q ∙ ap (λ (b : Bool). suc (first + cond b (c - 1) (k - 1))) (eq-eqb k 0 (omega arith)) ∙ omega arith;
+  on = λ g. ap (λ (e : Edge). e .next) q ∙ rw (lt-ltb (k + 1) c (omega arith)) (omega arith);
+  last = λ g. ap (λ (e : Edge). e .next) q ∙ rw (le-ltb (k + 1) c (omega arith)) (omega arith);
+  back = λ g. ap (λ (e : Edge). suc (e .previous)) q ∙ rw (ne-eqb k 0 (λ i. omega arith)) (omega arith);
+  wrap = λ g. ap (λ (e : Edge). suc (e .previous)) q ∙ rw (eq-eqb k 0 (omega arith)) (omega arith);
 }
 
 slot-same : (f g : List Edge) (first c s : ℕ) → edge g s ≡ edge f s → Slot f first c s → Slot g first c s
@@ -114,7 +115,7 @@ module _ (P : Line → Type 0) where
     line-part : (k : ℕ) (s : Loaded) (a : PlanarPoint) (x : Through) → (k < c → (l : Line) → x ≡ Along l → P l) → Part-is k s → granted (s .refusal) ≡ true → Part-is (suc k) (load-line d first c k a s x)
     unfolding load-line granted number values loaded-edge
     line-part k s a NoLine good p g = refused-part (suc k) s (Collapses d) refl
-    line-part k s a (Along l) good p g = go (ltb (s .used) 128) refl
+    line-part k s a (Along l) good p g = by-test (Part-is (suc k)) (ltb (s .used) 128) stored (λ q. refused-part (suc k) s _ refl)
       where
         e : Edge
         e = loaded-edge l first c k a
@@ -122,12 +123,8 @@ module _ (P : Line → Type 0) where
         f : List Edge
         f = set (s .edges) (s .used) e
 
-        full : Loaded
-        full = load-refused s (Slots (s .used + (c - k)))
-
-        go : (b : Bool) → ltb (s .used) 128 ≡ b → Part-is (suc k) (cond b (record { edges = f; used = s .used + 1; rings = s .rings; refusal = Granted }) full)
-        go false q h z = refused-part (suc k) s (Slots (s .used + (c - k))) refl h z
-        go true q h z =
+        stored : ltb (s .used) 128 ≡ true → Part-is (suc k) (record { edges = f; used = s .used + 1; rings = s .rings; refusal = Granted })
+        stored q h z =
             let w : Part k s = p (omega arith) g in
             let here : edge f (first + k) ≡ e = subst (λ (i : ℕ). edge f i ≡ e) (w .used) (edge-here (s .edges) (s .used) e (w .lined .size) (ltb-true (s .used) 128 q)) in
             let there : (x : ℕ) → x ≢ first + k → edge f x ≡ edge (s .edges) x = λ x n. edge-there (s .edges) (s .used) x e (λ i. n (i ∙ w .used)) in
@@ -146,17 +143,8 @@ module _ (P : Line → Type 0) where
 
     step-part : (k : ℕ) (s : Loaded) → Part-is k s → Part-is (suc k) (load-step ps c back origin d first k s)
     unfolding load-step load-edge
-    step-part k s p = go (granted (s .refusal)) refl
-      where
-        a : PlanarPoint
-        a = load-vertex ps c back origin k
-
-        b : PlanarPoint
-        b = load-vertex ps c back origin (following c k)
-
-        go : (o : Bool) → granted (s .refusal) ≡ o → Part-is (suc k) (cond o (load-line d first c k a s (through a b)) s)
-        go true q = line-part k s a (through a b) (sound k) p q
-        go false q = λ h g. absurd (false≢true (sym q ∙ g))
+    step-part k s p =
+        by-test (Part-is (suc k)) (granted (s .refusal)) (λ q. line-part k s (load-vertex ps c back origin k) _ (sound k) p q) (λ q h g. absurd (false≢true (sym q ∙ g)))
 
     -- a ring of three or more is loaded after the others
     pub load-law : (n r : ℕ) → 3 ≤ c → Load-is n r s₀ → Load-is (n + c) (suc r) (load-ring ps c back origin d s₀)
@@ -231,26 +219,13 @@ Load-refusal r = granted r ≡ false → (number r ≡ 15) ⊎ (number r ≡ 16)
 line-refusal : (d : Float) (first c k : ℕ) (a : PlanarPoint) (s : Loaded) (x : Through) → Load-refusal ((load-line d first c k a s x) .refusal)
 unfolding load-line load-refused granted number values
 line-refusal d first c k a s NoLine = λ q. inr refl
-line-refusal d first c k a s (Along l) = go (ltb (s .used) 128)
-  where
-    go : (b : Bool) → Load-refusal ((cond b (record { edges = set (s .edges) (s .used) (loaded-edge l first c k a); used = s .used + 1; rings = s .rings; refusal = Granted }) (load-refused s (Slots (s .used + (c - k))))) .refusal)
-    go true = λ q. absurd (true≢false q)
-    go false = λ q. inl refl
+line-refusal d first c k a s (Along l) = by-test (λ (x : Loaded). Load-refusal (x .refusal)) (ltb (s .used) 128) (λ b q. absurd (true≢false q)) (λ b q. inl refl)
 
 step-refusal : (ps : List Float) (c : ℕ) (back : Bool) (origin : PlanarPoint) (d : Float) (first k : ℕ) (s : Loaded) → Load-refusal (s .refusal)
     → Load-refusal ((load-step ps c back origin d first k s) .refusal)
 unfolding load-step load-edge
-step-refusal ps c back origin d first k s h = go (granted (s .refusal))
-  where
-    a : PlanarPoint
-    a = load-vertex ps c back origin k
-
-    b : PlanarPoint
-    b = load-vertex ps c back origin (following c k)
-
-    go : (o : Bool) → Load-refusal ((cond o (load-line d first c k a s (through a b)) s) .refusal)
-    go true = line-refusal d first c k a s (through a b)
-    go false = h
+step-refusal ps c back origin d first k s h =
+    by-test (λ (x : Loaded). Load-refusal (x .refusal)) (granted (s .refusal)) (λ q. line-refusal d first c k (load-vertex ps c back origin k) s _) (λ q. h)
 
 pub ring-refusal : (ps : List Float) (c : ℕ) (back : Bool) (origin : PlanarPoint) (d : Float) (s : Loaded) → Load-refusal (s .refusal)
     → Load-refusal ((load-ring ps c back origin d s) .refusal)

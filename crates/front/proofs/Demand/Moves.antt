@@ -3,7 +3,7 @@ use lib.Ieee
 use mathlib.Core.Path.{_≡_, refl, ap, _∙_, subst}
 use mathlib.Core.Bool.{Bool, true, false, cond, not, _&&_}
 use mathlib.Core.List.{List}
-use Prim.Native.Nat.{ℕ, _+_, _-_, _*_}
+use Prim.Native.Nat.{ℕ, _-_, _*_}
 use native.Mathlib.Omega.{arith}
 use native.Mathlib.Nat.{mul-comm, add-comm}
 use lib.Dec.{ltb, eqb}
@@ -12,7 +12,6 @@ use lib.Ieee.{Float, nan, inf, fin, binary64, lt, neg, sum, round, unlike, up, d
 use Rattle.plane.specs.declared.PlanarPoint.{PlanarPoint}
 use Rattle.front.specs.declared.Line.{Line}
 use Rattle.front.specs.declared.Edge.{Edge}
-use Rattle.front.specs.declared.Place.{Place}
 use Rattle.front.specs.declared.Place.the-variants.{Nowhere, There}
 use Rattle.math.specs.Number
 use Rattle.math.specs.Number.{add, mul, div, one}
@@ -20,6 +19,7 @@ use Rattle.plane.specs.Plane.{dot}
 use Rattle.front.specs.Thresholds.{opposite}
 use Rattle.front.specs.Lines.{direction, normal, velocity-by, velocity}
 use Rattle.front.specs.Edges.{edge, moved-by, vertex-by, vertex-of, vertex}
+use Rattle.front.specs.Tidying.{opposed}
 use Rattle.front.specs.Demand.{links}
 use Rattle.front.specs.Velocity.{Turned-left, SameBits, Moves}
 use Rattle.front.proofs.Demand.Links.{live-prev, next-prev}
@@ -96,9 +96,8 @@ same-bits a b p q =
 
 -- ---- a velocity
 
-has-velocity : (a b : Line) → Turned-left a → Turned-left b → lt (add one (dot (direction a) (direction b))) opposite ≡ false
-    → (v : PlanarPoint) × (velocity a b ≡ There v)
-unfolding velocity velocity-by
+has-velocity : (a b : Line) → Turned-left a → Turned-left b → opposed (direction a) (direction b) ≡ false → (v : PlanarPoint) × (velocity a b ≡ There v)
+unfolding velocity velocity-by opposed
 has-velocity a b p q h =
     let scale : Float = add one (dot (normal a) (normal b)) in (
       _,
@@ -115,5 +114,5 @@ moves P left f t events bound T l x a now =
     let w : (v : PlanarPoint) × (velocity ((edge f p) .line) ((edge f x) .line) ≡ There v) =
     has-velocity ((edge f p) .line) ((edge f x) .line)
     (left ((edge f p) .line) (l .lines p (alive-of ((edge f p) .alive) ap-live))) (left ((edge f x) .line) (l .lines x (alive-of ((edge f x) .alive) a)))
-    (subst (λ (k : ℕ). lt (add one (dot (direction ((edge f p) .line)) (direction ((edge f k) .line)))) opposite ≡ false) n (tidied-apart f t events bound T p ap-live)) in
+    (subst (λ (k : ℕ). opposed (direction ((edge f p) .line)) (direction ((edge f k) .line)) ≡ false) n (tidied-apart f t events bound T p ap-live)) in
     (moved-by ((edge f x) .start) (w .0) (Number.sub now ((edge f x) .since)), w .0, ap (vertex-by (edge f x) now) (w .1))

@@ -1,18 +1,18 @@
 -- Where every live vertex has a velocity, the event search meets none without, and finds live edges only, at steps that go forward.
 use mathlib.Core.Path.{_≡_, refl, sym, ap, _∙_, subst}
 use mathlib.Core.Logic.{_≢_}
-use mathlib.Core.Bool.{Bool, true, false, cond, not, _&&_, _||_, false≢true}
+use mathlib.Core.Bool.{Bool, true, false, cond, not, _&&_, _||_}
 use mathlib.Core.List.{List}
 use Prim.Native.Nat.{ℕ}
 use lib.Dec.{eqb}
 use lib.Ieee.{Float, inf, lt, le, neg}
-use borrow.Author.Tests.{eqb-false}
+use borrow.Author.Tests.{eqb-false, not-true}
 use Rattle.plane.specs.declared.PlanarPoint.{PlanarPoint}
 use Rattle.front.specs.declared.Edge.{Edge}
 use Rattle.front.specs.declared.Vertex.{Vertex}
-use Rattle.front.specs.declared.Vertex.the-variants.{NoVertex, Moving}
+use Rattle.front.specs.declared.Vertex.the-variants.{Moving}
 use Rattle.front.specs.declared.Length.{Length}
-use Rattle.front.specs.declared.Length.the-variants.{NoLength, Long}
+use Rattle.front.specs.declared.Length.the-variants.{Long}
 use Rattle.front.specs.declared.SoonestCollapse.{SoonestCollapse}
 use Rattle.front.specs.declared.SoonestCollapse.the-variants.{NoCollapse, CollapseAfter}
 use Rattle.front.specs.declared.SoonestSplit.{SoonestSplit}
@@ -30,6 +30,7 @@ use Rattle.front.specs.NextEvent.{look-split, look-collapse, sooner, lat
 use Rattle.front.specs.Demand.{bit, links}
 use Rattle.front.specs.Velocity.{Moves}
 use Rattle.loops.proofs.Laws.{rounds-keep}
+use Rattle.front.proofs.Demand.Choice.{by-test, and-left, and-right}
 use Rattle.front.proofs.Demand.Forward.{Forward, hit-forward, shrink-forward}
 use Rattle.front.proofs.Demand.Events.{Hits}
 
@@ -75,21 +76,15 @@ module _ (f : List Edge) (t : Float) (rates : Rates f t) (moves : Moves f) (on :
     struck : Struck f (s .split)
     moving : s .stalled ≡ false
 
-  either : (b : Bool) (r s : EventSearch) → Fine r → Fine s → Fine (cond b r s)
-  either true r s h k = h
-  either false r s h k = k
-
   -- ---- a vertex against an edge
 
   module _ (v e : ℕ) (w : Hits f v e) where
     to-fine : (u : PlanarPoint) (step : Float) (p vel from : PlanarPoint) (s : EventSearch) (to z : PlanarPoint) → lt step zero-float ≡ false → Fine s
         → Fine (hit-to v e u step (moved-by p vel step) from s (Moving to z))
     unfolding hit-to look-split
-    to-fine u step p vel from s to z q h = go (hit-within u (moved-by p vel step) from to) refl
-      where
-        go : (b : Bool) → hit-within u (moved-by p vel step) from to ≡ b → Fine (cond b (look-split s (SplitAfter v e step)) s)
-        go true r = record { gone = h .gone; struck = (w, hit-forward u p vel from to step q r); moving = h .moving }
-        go false r = h
+    to-fine u step p vel from s to z q h = by-test Fine (hit-within u (moved-by p vel step) from to)
+        (λ r. record { gone = h .gone; struck = (w, hit-forward u p vel from to step q r); moving = h .moving })
+        (λ r. h)
 
     from-fine : (step at : Float) (p vel : PlanarPoint) (s : EventSearch) (from z : PlanarPoint) → lt step zero-float ≡ false → Fine s
         → Fine (hit-from f v e (edge f e) step at (moved-by p vel step) s (Moving from z))
@@ -114,23 +109,18 @@ module _ (f : List Edge) (t : Float) (rates : Rates f t) (moves : Moves f) (on :
     at-fine p vel s h =
         let closing : Float = Number.sub (dot (normal ((edge f e) .line)) vel) one in
         let step : Float = div (Number.sub (add ((edge f e) .line .c) t) (dot (normal ((edge f e) .line)) p)) closing in
-        either (le zero-float closing) s (hit-after f t v e (edge f e) p vel step s) h (after-fine p vel step s h)
+        by-test Fine (le zero-float closing) (λ r. h) (λ r. after-fine p vel step s h)
 
   hits-of : (v e : ℕ) (s : EventSearch) → links f .live v ≡ 1 → candidate v ((edge f v) .previous) e (edge f e) s ≡ true → Hits f v e
   unfolding candidate
-  hits-of v e s a q = go (s .stalled) ((edge f e) .alive) refl (eqb e v) refl (eqb e ((edge f v) .previous)) refl q
-    where
-      go : (l : Bool) → (i : Bool) → (edge f e) .alive ≡ i → (j : Bool) → eqb e v ≡ j → (k : Bool) → eqb e ((edge f v) .previous) ≡ k
-          → (not l && (i && (not j && not k))) ≡ true → Hits f v e
-      go true i qi j qj k qk r = absurd (false≢true r)
-      go false false qi j qj k qk r = absurd (false≢true r)
-      go false true qi true qj k qk r = absurd (false≢true r)
-      go false true qi false qj true qk r = absurd (false≢true r)
-      go false true qi false qj false qk r = record {
+  hits-of v e s a q =
+      let r : _ = and-right (not (s .stalled)) _ q in
+      let apart : _ = and-right ((edge f e) .alive) _ r in
+      record {
         vertex = a;
-        hit = ap bit qi;
-        other = eqb-false e v qj;
-        off = eqb-false e ((edge f v) .previous) qk;
+        hit = ap bit (and-left ((edge f e) .alive) _ r);
+        other = eqb-false e v (not-true (eqb e v) (and-left (not (eqb e v)) _ apart));
+        off = eqb-false e ((edge f v) .previous) (not-true (eqb e ((edge f v) .previous)) (and-right (not (eqb e v)) _ apart));
       }
 
   hits-fine : (v : ℕ) (p vel : PlanarPoint) (s : EventSearch) → links f .live v ≡ 1 → Fine s → Fine (hits f t v ((edge f v) .previous) p vel s)
@@ -138,39 +128,25 @@ module _ (f : List Edge) (t : Float) (rates : Rates f t) (moves : Moves f) (on :
   hits-fine v p vel s a h = rounds-keep (hit-step f t v ((edge f v) .previous) p vel) (λ i r. Fine r) s h step 128
     where
       step : (e : ℕ) (r : EventSearch) → Fine r → Fine (cond (candidate v ((edge f v) .previous) e (edge f e) r) (hit-at f t v e (edge f e) p vel r) r)
-      step e r g = go (candidate v ((edge f v) .previous) e (edge f e) r) refl
-        where
-          go : (b : Bool) → candidate v ((edge f v) .previous) e (edge f e) r ≡ b → Fine (cond b (hit-at f t v e (edge f e) p vel r) r)
-          go true q = at-fine v e (hits-of v e r a q) p vel r g
-          go false q = g
+      step e r g = by-test Fine (candidate v ((edge f v) .previous) e (edge f e) r) (λ q. at-fine v e (hits-of v e r a q) p vel r g) (λ q. g)
 
   -- ---- one edge
 
   sooner-fine : (x : ℕ) (step : Float) (c : SoonestCollapse) → links f .live x ≡ 1 → Forward step → Gone f c → Gone f (sooner x step c)
   unfolding sooner
   sooner-fine x step NoCollapse a k g = (a, k)
-  sooner-fine x step (CollapseAfter y s) a k g = go (lt step s)
-    where
-      go : (b : Bool) → Gone f (cond b (CollapseAfter x step) (CollapseAfter y s))
-      go true = (a, k)
-      go false = g
+  sooner-fine x step (CollapseAfter y s) a k g = by-test (Gone f) (lt step s) (λ q. (a, k)) (λ q. g)
 
   shrinking-fine : (x : ℕ) (l rate : Float) (s : EventSearch) → links f .live x ≡ 1 → edge-length f x t ≡ Long l rate → Fine s → Fine (shrinking x l rate s)
   unfolding shrinking look-collapse
-  shrinking-fine x l rate s a q h = go (lt rate zero-float) refl
-    where
-      step : Float
-      step = div (fmax l zero-float) (neg rate)
-
-      go : (b : Bool) → lt rate zero-float ≡ b → Fine (cond b (look-collapse s (sooner x step (s .collapse))) s)
-      go true r = record { gone = sooner-fine x step (s .collapse) a (shrink-forward l rate r (rates x a l rate q)) (h .gone); struck = h .struck; moving = h .moving }
-      go false r = h
+  shrinking-fine x l rate s a q h = by-test Fine (lt rate zero-float)
+      (λ r. record { gone = sooner-fine x (div (fmax l zero-float) (neg rate)) (s .collapse) a (shrink-forward l rate r (rates x a l rate q)) (h .gone); struck = h .struck; moving = h .moving })
+      (λ r. h)
 
   turn-fine : (x : ℕ) (p vel : PlanarPoint) (s : EventSearch) → links f .live x ≡ 1 → Fine s → Fine (look-turn f t x (edge f x) p vel s)
   unfolding look-turn
   turn-fine x p vel s a h =
-      either (le zero-float (cross (direction ((edge f ((edge f x) .previous)) .line)) (direction ((edge f x) .line)))) s (hits f t x ((edge f x) .previous) p vel s)
-      h (hits-fine x p vel s a h)
+      by-test Fine (le zero-float (cross (direction ((edge f ((edge f x) .previous)) .line)) (direction ((edge f x) .line)))) (λ q. h) (λ q. hits-fine x p vel s a h)
 
   vertex-fine : (x : ℕ) (s : EventSearch) → links f .live x ≡ 1 → Fine s → Fine (look-vertex f t x (edge f x) s (vertex f x t))
   unfolding look-vertex look-length
@@ -182,12 +158,7 @@ module _ (f : List Edge) (t : Float) (rates : Rates f t) (moves : Moves f) (on :
 
   step-fine : (x : ℕ) (s : EventSearch) → Fine s → Fine (look-step f t x s)
   unfolding look-step look-at
-  step-fine x s h = go (s .stalled) ((edge f x) .alive) refl
-    where
-      go : (l a : Bool) → (edge f x) .alive ≡ a → Fine (cond (not l && a) (look-vertex f t x (edge f x) s (vertex f x t)) s)
-      go true a q = h
-      go false false q = h
-      go false true q = vertex-fine x s (ap bit q) h
+  step-fine x s h = by-test Fine (not (s .stalled) && (edge f x) .alive) (λ q. vertex-fine x s (ap bit (and-right (not (s .stalled)) _ q)) h) (λ q. h)
 
   look-fine : Fine (look f t)
   unfolding look
@@ -200,11 +171,7 @@ module _ (f : List Edge) (t : Float) (rates : Rates f t) (moves : Moves f) (on :
   choose-fine NoCollapse NoSplit g k = tt
   choose-fine NoCollapse (SplitAfter v e s) g k = k
   choose-fine (CollapseAfter x c) NoSplit g k = g
-  choose-fine (CollapseAfter x c) (SplitAfter v e s) g k = go (lt s (Number.sub c (mul tie (add one t))))
-    where
-      go : (b : Bool) → Event-is f (cond b (Split v e s) (Collapse x c))
-      go true = k
-      go false = g
+  choose-fine (CollapseAfter x c) (SplitAfter v e s) g k = by-test (Event-is f) (lt s (Number.sub c (mul tie (add one t)))) (λ q. k) (λ q. g)
 
   pub event-fine : Event-is f (next-event f t)
   unfolding next-event event-of

@@ -1,13 +1,12 @@
 -- A shape that passes question 21 has small coordinates, and so its lines have small directions.
 use lib.Ieee
-use mathlib.Core.Path.{_≡_, refl, sym, _∙_, subst}
-use mathlib.Core.Logic.{_≢_}
+use mathlib.Core.Path.{_≡_, refl, sym, subst}
 use mathlib.Core.Bool.{Bool, true, false, cond, _&&_, _||_, false≢true}
 use mathlib.Core.List.{List}
 use Prim.Native.Nat.{ℕ, suc, _+_, _-_, _*_, _^_, _≤_, _<_}
 use native.Mathlib.Omega.{arith}
 use lib.Dec.{leb, ltb, eqb}
-use borrow.Author.Tests.{leb-true, ltb-true, eqb-true, eq-eqb}
+use borrow.Author.Tests.{leb-true, ltb-true, eqb-true}
 use lib.ListN.{getD}
 use lib.Ieee.{Float, nan, inf, fin, lt, le, eq, up, down}
 use Rattle.plane.specs.declared.PlanarPoint.{PlanarPoint}
@@ -24,6 +23,7 @@ use Rattle.polygon.specs.Outlines.{in-range-step, in-range, proper}
 use Rattle.front.specs.Lines.{line-along, line-by, line-of, through}
 use Rattle.front.specs.Loading.{load-vertex}
 use Rattle.loops.proofs.Laws.{rounds-keep}
+use Rattle.front.proofs.Demand.Choice.{and-left, and-right}
 use Rattle.front.proofs.Demand.Occ.{by-cases}
 use Rattle.front.proofs.Demand.Small.{Small, neg-small, sub-small}
 use Rattle.front.proofs.Demand.Rates.{Bounded, SmallPoint}
@@ -81,14 +81,6 @@ within-small (fin s m e) q = go (ltb a b) refl (eqb a b) refl q
     go true p y r z = omega (arith, ltb-true a b p)
     go false p true r z = omega (arith, eqb-true a b r)
     go false p false r z = absurd (false≢true z)
-
-pub and-left : (x y : Bool) → (x && y) ≡ true → x ≡ true
-and-left true y q = refl
-and-left false y q = q
-
-pub and-right : (x y : Bool) → (x && y) ≡ true → y ≡ true
-and-right true y q = q
-and-right false y q = absurd (false≢true q)
 
 coordinates : (ps : List Float) (n : ℕ) → in-range ps n ≡ true → (i : ℕ) → i < 2 * n → Small 30 (getD ps i nan)
 unfolding in-range in-range-step

@@ -1,6 +1,5 @@
 -- Events counted: the tally of a list, and what an event adds to the counts of a sweep.
-use mathlib.Core.Path.{_≡_, refl}
-use mathlib.Core.Bool.{Bool, true, false, cond}
+use mathlib.Core.Path.{_≡_}
 use mathlib.Core.List.{List, [], _∷_, _++_}
 use Prim.Native.Nat.{ℕ, zero, suc, _+_, _*_, _≤_}
 use native.Mathlib.Omega.{arith}
@@ -9,6 +8,7 @@ use Rattle.front.specs.declared.Edge.{Edge}
 use Rattle.front.specs.declared.Event.{Event}
 use Rattle.front.specs.declared.Event.the-variants.{Stalled, Never, Collapse, Split}
 use Rattle.front.specs.declared.Sweep.{Sweep}
+use Rattle.front.proofs.Demand.Choice.{by-test}
 use Rattle.front.specs.Demand.{Completed, collapsed, divided, joined, Counts, Turn, going, kind, completed, one-more, tally, handed, tidied, found}
 
 -- ---- the tally
@@ -52,11 +52,7 @@ kind-one f (Split v e step) = omega arith
 
 pub completed-one : (t : Turn) → length (completed t) ≤ 1
 unfolding completed
-completed-one t = go (going (t .to))
-  where
-    go : (b : Bool) → length (cond b (kind ((tidied t) .edges) (found t)) []) ≤ 1
-    go true = kind-one ((tidied t) .edges) (found t)
-    go false = omega arith
+completed-one t = by-test (λ (es : List Completed). length es ≤ 1) (going (t .to)) (λ q. kind-one ((tidied t) .edges) (found t)) (λ q. omega arith)
 
 -- ---- the counts of a sweep
 

@@ -5,8 +5,7 @@ use mathlib.Core.Bool.{Bool, true, false, cond, not, _&&_, _||_, true≢false, f
 use mathlib.Core.List.{List, [], _∷_}
 use Prim.Native.Nat.{ℕ, suc, _+_, _≤_, _<_}
 use native.Mathlib.Omega.{arith}
-use lib.Dec.{ltb}
-use lib.Ieee.{Float, lt, le}
+use lib.Ieee.{Float}
 use borrow.Author.Tests.{ltb-true, ltb-false, eq-eqb, ne-eqb}
 use lib.ListN.{length}
 use Rattle.plane.specs.declared.PlanarPoint.{PlanarPoint}
@@ -18,17 +17,15 @@ use Rattle.front.specs.declared.Length.the-variants.{NoLength, Long}
 use Rattle.front.specs.declared.Tidy.{Tidy}
 use Rattle.front.specs.declared.Tidy.the-variants.{Settled, SmallRing, Straight, Spike, Empty}
 use Rattle.front.specs.declared.Front.{Front}
-use Rattle.math.specs.Number.{one, add, mul, zero-float, abs}
-use Rattle.front.specs.Thresholds.{parallel, opposite, on-edge, tie}
-use Rattle.plane.specs.Plane.{dot, cross}
 use Rattle.loops.specs.Loop.{rounds}
 use Rattle.front.specs.Edges.{edge, set-start, kill, remove, ring-len, vertex, altered, stalled, anchor-at, anchor, then-remove, collapse, edge-length}
 use Rattle.front.specs.Lines.{direction, meeting}
-use Rattle.front.specs.Tidying.{tidy-length, tidy-turn, tidy-edge, tidy-at, unless-found, find-step, find-tidy, Drop, drop-on, drop-step, drop-ring, drop-straight, meeting-or, drop-both, spike-to, spike-from, drop-spike, tidy-by, tidy-once, tidy-step, tidy}
+use Rattle.front.specs.Tidying.{empty, tidy-length, opposed, same-way, tidy-turn, few, tidy-edge, tidy-at, unless-found, find-step, find-tidy, Drop, drop-on, drop-step, drop-ring, drop-straight, meeting-or, drop-both, spike-to, spike-from, drop-spike, tidy-by, tidy-once, tidy-step, tidy}
 use Rattle.front.specs.Demand.{Links, bit, links}
 use Rattle.front.proofs.Demand.Links
 use Rattle.front.proofs.Demand.Steps
 use Rattle.loops.proofs.Laws.{stays-to, rounds-keep}
+use Rattle.front.proofs.Demand.Choice.{by-test}
 use Rattle.front.proofs.Demand.Occ.{by-cases, occ-cons, same-eq}
 use Rattle.front.proofs.Demand.Rings.{ring, edges}
 use Rattle.front.proofs.Demand.Total.{edges-le}
@@ -36,6 +33,16 @@ use Rattle.front.proofs.Demand.Links.{Dropped, RingsOf, From, from, alo
 use Rattle.front.proofs.Demand.Sets.{SetDead, drop-by-one, drop-by-two}
 use Rattle.front.proofs.Demand.Views.{live-in, alive-of, dead-set, kill-length, start-same}
 use Rattle.front.proofs.Demand.Kept.{Kept, Less, less-of, out-of, removes, starts, ring-len-same}
+
+-- ---- a ring of fewer than three edges
+
+few-true : (n : ℕ) → few n ≡ true → n < 3
+unfolding few
+few-true n q = omega (arith, ltb-true n _ q)
+
+few-false : (n : ℕ) → few n ≡ false → 3 ≤ n
+unfolding few
+few-false n q = omega (arith, ltb-false n _ q)
 
 -- ---- the first slot at which something is wrong
 
@@ -48,41 +55,23 @@ module _ (f : List Edge) (t : Float) where
   Found (Spike k) = (links f .live k ≡ 1) × (3 ≤ ring-len f k)
   Found (Empty k) = (links f .live k ≡ 1) × (3 ≤ ring-len f k)
 
-  either : (b : Bool) (p q : Tidy) → Found p → Found q → Found (cond b p q)
-  either true p q h k = h
-  either false p q h k = k
-
   at-length : (x : ℕ) (l : Length) → links f .live x ≡ 1 → 3 ≤ ring-len f x → Found (tidy-length x t l)
   unfolding tidy-length
   at-length x NoLength a h = tt
-  at-length x (Long l rate) a h = either (le l (mul on-edge (add one t)) && le rate tie) (Empty x) Settled (a, h) tt
+  at-length x (Long l rate) a h = by-test Found (empty t l rate) (λ q. (a, h)) (λ q. tt)
 
   at-turn : (x : ℕ) (u w : PlanarPoint) → links f .live x ≡ 1 → 3 ≤ ring-len f x → Found (tidy-turn f x t u w)
   unfolding tidy-turn
-  at-turn x u w a h =
-      let r : Tidy = tidy-length x t (edge-length f x t) in
-      let s : Tidy = cond (lt (abs (cross u w)) parallel && lt zero-float (dot u w)) (Straight x) r in
-      either (lt (add one (dot u w)) opposite) (Spike x) s (a, h)
-      (either (lt (abs (cross u w)) parallel && lt zero-float (dot u w)) (Straight x) r (a, h) (at-length x (edge-length f x t) a h))
+  at-turn x u w a h = by-test Found (opposed u w) (λ q. (a, h)) (λ q. by-test Found (same-way u w) (λ r. (a, h)) (λ r. at-length x (edge-length f x t) a h))
 
   at-edge : (x : ℕ) (e : Edge) → links f .live x ≡ 1 → Found (tidy-edge f x t e)
   unfolding tidy-edge
-  at-edge x e a = go (ltb (ring-len f x) 3) refl
-    where
-      w : Tidy
-      w = tidy-turn f x t (direction (e .line)) (direction ((edge f (e .next)) .line))
-
-      go : (b : Bool) → ltb (ring-len f x) 3 ≡ b → Found (cond b (SmallRing x) w)
-      go true q = (a, ltb-true (ring-len f x) 3 q)
-      go false q = at-turn x (direction (e .line)) (direction ((edge f (e .next)) .line)) a (ltb-false (ring-len f x) 3 q)
+  at-edge x e a = by-test Found (few (ring-len f x)) (λ q. (a, few-true (ring-len f x) q))
+      (λ q. at-turn x (direction (e .line)) (direction ((edge f (e .next)) .line)) a (few-false (ring-len f x) q))
 
   at-slot : (x : ℕ) → Found (tidy-at f x t (edge f x))
   unfolding tidy-at
-  at-slot x = go ((edge f x) .alive) refl
-    where
-      go : (b : Bool) → (edge f x) .alive ≡ b → Found (cond b (tidy-edge f x t (edge f x)) Settled)
-      go true q = at-edge x (edge f x) (ap bit q)
-      go false q = tt
+  at-slot x = by-test Found ((edge f x) .alive) (λ q. at-edge x (edge f x) (ap bit q)) (λ q. tt)
 
   found-on : (s r : Tidy) → Found s → Found r → Found (unless-found s r)
   unfolding unless-found
@@ -125,12 +114,11 @@ module _ (f : List Edge) (t : Float) where
   -- a live edge at which nothing is found: its ring has three edges or more, and it and its next do not face opposite ways
   record Right (x : ℕ) : Type 0 where
     three : 3 ≤ ring-len f x
-    apart : lt (add one (dot (direction ((edge f x) .line)) (direction ((edge f ((edge f x) .next)) .line)))) opposite ≡ false
+    apart : opposed (direction ((edge f x) .line)) (direction ((edge f ((edge f x) .next)) .line)) ≡ false
 
   right : find-tidy f t ≡ Settled → (x : ℕ) → links f .live x ≡ 1 → Right x
   unfolding tidy-at tidy-edge tidy-turn is-settled
-  right q x a = go ((edge f x) .alive) (alive-of ((edge f x) .alive) a) (ltb (ring-len f x) 3) refl (lt (add one (dot u w)) opposite) refl
-      (settled-slots q x (live-in f x a))
+  right q x a = go ((edge f x) .alive) (alive-of ((edge f x) .alive) a) (few (ring-len f x)) refl (opposed u w) refl (settled-slots q x (live-in f x a))
     where
       u : PlanarPoint
       u = direction ((edge f x) .line)
@@ -139,14 +127,14 @@ module _ (f : List Edge) (t : Float) where
       w = direction ((edge f ((edge f x) .next)) .line)
 
       rest : Tidy
-      rest = cond (lt (abs (cross u w)) parallel && lt zero-float (dot u w)) (Straight x) (tidy-length x t (edge-length f x t))
+      rest = cond (same-way u w) (Straight x) (tidy-length x t (edge-length f x t))
 
-      go : (i : Bool) → i ≡ true → (b : Bool) → ltb (ring-len f x) 3 ≡ b → (c : Bool) → lt (add one (dot u w)) opposite ≡ c
+      go : (i : Bool) → i ≡ true → (b : Bool) → few (ring-len f x) ≡ b → (c : Bool) → opposed u w ≡ c
           → cond i (cond b (SmallRing x) (cond c (Spike x) rest)) Settled ≡ Settled → Right x
       go false i b qb c qc z = absurd (false≢true i)
       go true i true qb c qc z = absurd (false≢true (ap is-settled z))
       go true i false qb true qc z = absurd (false≢true (ap is-settled z))
-      go true i false qb false qc z = record { three = ltb-false (ring-len f x) 3 qb; apart = qc }
+      go true i false qb false qc z = record { three = few-false (ring-len f x) qb; apart = qc }
 
 -- ---- a small ring dropped
 
@@ -310,11 +298,7 @@ module _ (events bound : ℕ) (t : Float) (f : List Edge) (k : Kept f events bou
 
   then-changed : (x : ℕ) (s : Front) → s .changed ≡ true → (then-remove x s) .changed ≡ true
   unfolding then-remove altered
-  then-changed x s c = go (s .stalled)
-    where
-      go : (b : Bool) → (cond b s (altered (remove (s .edges) x))) .changed ≡ true
-      go true = c
-      go false = refl
+  then-changed x s c = by-test (λ (r : Front). r .changed ≡ true) (s .stalled) (λ q. c) (λ q. refl)
 
   anchor-changed : (g : List Edge) (x : ℕ) (v : Vertex) → (anchor-at g x t v) .changed ≡ true
   unfolding anchor-at altered stalled
@@ -379,14 +363,14 @@ tidied-of f t events bound k q = record {
 
 -- an edge and its next do not face opposite ways
 pub tidied-apart : (f : List Edge) (t : Float) (events bound : ℕ) → Tidied f t events bound → (x : ℕ) → links f .live x ≡ 1
-    → lt (add one (dot (direction ((edge f x) .line)) (direction ((edge f ((edge f x) .next)) .line)))) opposite ≡ false
+    → opposed (direction ((edge f x) .line)) (direction ((edge f ((edge f x) .next)) .line)) ≡ false
 tidied-apart f t events bound T x a = right f t (T .settled) x a .apart
 
 -- tidying, where it is not stalled, ends with a step that changes nothing
 pub tidy-law : (f : List Edge) (events bound : ℕ) (t : Float) → Kept f events bound → (tidy f t) .stalled ≡ false
     → ((tidy f t) .changed ≡ false) × Tidied ((tidy f t) .edges) t events bound
 unfolding tidy altered
-tidy-law f events bound t k = go (rounds (tidy-step t) 129 (altered f)) (rounds-keep (tidy-step t) (TriedAt events bound t) (altered f) first (step-case events bound t) 129)
+tidy-law f events bound t k = go _ _ (rounds-keep (tidy-step t) (TriedAt events bound t) (altered f) first (step-case events bound t) _) (omega arith)
   where
     first : TriedAt events bound t 0 (altered f)
     first q = record {
@@ -395,8 +379,9 @@ tidy-law f events bound t k = go (rounds (tidy-step t) 129 (altered f)) (rounds-
       settled = λ e. absurd (true≢false e);
     }
 
-    go : (s : Front) → TriedAt events bound t 129 s → s .stalled ≡ false → (s .changed ≡ false) × Tidied (s .edges) t events bound
-    go s h q = settle (s .changed) refl
+    -- more steps than edges
+    go : (n : ℕ) (s : Front) → TriedAt events bound t n s → 128 < n → s .stalled ≡ false → (s .changed ≡ false) × Tidied (s .edges) t events bound
+    go n s h more q = settle (s .changed) refl
       where
         settle : (c : Bool) → s .changed ≡ c → (s .changed ≡ false) × Tidied (s .edges) t events bound
         settle false e = (e, tidied-of (s .edges) t events bound (h q .kept) (h q .settled e))

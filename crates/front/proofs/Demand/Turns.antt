@@ -2,7 +2,7 @@
 use mathlib.Core.Path.{_≡_, refl, sym, ap, _∙_, subst}
 use mathlib.Core.Logic.{_≢_}
 use mathlib.Core.Bool.{Bool, true, false, cond, false≢true}
-use mathlib.Core.List.{List, [], _∷_, _++_}
+use mathlib.Core.List.{List, [], _∷_}
 use Prim.Native.Nat.{ℕ, zero, suc, _+_, _*_, _≤_}
 use native.Mathlib.Omega.{arith}
 use lib.ListN.{length, take, length-append}
@@ -15,7 +15,7 @@ use Rattle.error.specs.Refusals.{number}
 use Rattle.loops.specs.Loop.{rounds}
 use Rattle.front.specs.Sweeps.{sweep-tidied, sweep-step}
 use Rattle.front.specs.Tidying.{find-tidy, tidy}
-use Rattle.front.specs.Demand.{links, InRing, going, Turn, turn, turns, tidied, Looks, Leads, Each, Completed, found, kind, completed, events, tally}
+use Rattle.front.specs.Demand.{links, InRing, going, Turn, turn, turns, tidied, Looks, Leads, Each, found, kind, completed, events}
 use Rattle.front.specs.Velocity.{Moves}
 use Rattle.loops.proofs.Laws.{steady, still, rounds-keep}
 use Rattle.front.proofs.Demand.Tallies.{Adds, adds-none, adds-then, Bound, bound-none, bound-then, by-any-point, completed-one}

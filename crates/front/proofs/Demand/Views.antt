@@ -8,7 +8,7 @@ use native.Mathlib.Omega.{arith}
 use native.Mathlib.Decide.{decLt}
 use lib.Dec.{ltb}
 use lib.Ieee.{Float}
-use lib.ListN.{length, getD, set, length-set}
+use lib.ListN.{length, set, length-set}
 use lib.Seq.{getD-set-same, getD-set-other}
 use Rattle.plane.specs.declared.PlanarPoint.{PlanarPoint}
 use Rattle.front.specs.declared.Edge.{Edge}
@@ -128,33 +128,19 @@ start-length f s p t l = set-length f s (with-start (edge f s) p t) l
 
 pub remove-length : (f : List Edge) (x : ℕ) → length f ≡ 128 → length (remove f x) ≡ 128
 unfolding remove unlinked
-remove-length f x l =
-    let p : ℕ = (edge f x) .previous in
-    let n : ℕ = (edge f x) .next in
-    kill-length (set-previous (set-next f p n) n p) x (previous-length (set-next f p n) n p (next-length f p n l))
+remove-length f x l = kill-length _ _ (previous-length _ _ _ (next-length _ _ _ l))
 
 pub remove-out : (f : List Edge) (x : ℕ) → length f ≡ 128 → x < 128 → (edge f x) .previous < 128 → (edge f x) .next < 128 → Out (links f) (links (remove f x)) x
 unfolding remove unlinked
 remove-out f x l hx hp hn =
-    let p : ℕ = (edge f x) .previous in
-    let n : ℕ = (edge f x) .next in
-    let f₁ : List Edge = set-next f p n in
-    let f₂ : List Edge = set-previous f₁ n p in
-    let l₁ : length f₁ ≡ 128 = next-length f p n l in
-    let l₂ : length f₂ ≡ 128 = previous-length f₁ n p l₁ in
-    out-by-sets (links f) (links f₁) (links f₂) (links (kill f₂ x)) x (next-set f l p n hp) (previous-set f₁ l₁ n p hn) (dead-set f₂ l₂ x hx)
+    let l₁ = next-length f ((edge f x) .previous) ((edge f x) .next) l in
+    out-by-sets _ _ _ _ x (next-set f l _ _ hp) (previous-set _ l₁ _ _ hn) (dead-set _ (previous-length _ _ _ l₁) x hx)
 
 -- ---- a split: the vertex v, the edge e that it hits, the slot s
 
 pub split-length : (f : List Edge) (v e s before : ℕ) (hit : Edge) (p : PlanarPoint) (t : Float) → length f ≡ 128 → length (split-linked f v e s before hit p t) ≡ 128
 unfolding split-linked cut
-split-length f v e s before hit p t l =
-    let f₀ : List Edge = set f s (copy-of hit before p t) in
-    let f₁ : List Edge = set-next f₀ before s in
-    let f₂ : List Edge = set-previous f₁ (hit .next) s in
-    let f₃ : List Edge = set-next f₂ e v in
-    let f₄ : List Edge = set-previous f₃ v e in
-    start-length f₄ v p t (previous-length f₃ v e (next-length f₂ e v (previous-length f₁ (hit .next) s (next-length f₀ before s (set-length f s (copy-of hit before p t) l)))))
+split-length f v e s before hit p t l = start-length _ _ _ _ (previous-length _ _ _ (next-length _ _ _ (previous-length _ _ _ (next-length _ _ _ (set-length f s (copy-of hit before p t) l)))))
 
 pub split-met : (f : List Edge) (v e s : ℕ) (p : PlanarPoint) (t : Float) → length f ≡ 128
     → s < 128 → (edge f v) .previous < 128 → (edge f e) .next < 128 → e < 128 → v < 128
@@ -165,17 +151,9 @@ split-met f v e s p t l hs hb hn he hv bs ns es vs be nv =
     let before : ℕ = (edge f v) .previous in
     let after : ℕ = (edge f e) .next in
     let copy : Edge = copy-of (edge f e) before p t in
-    let f₀ : List Edge = set f s copy in
-    let f₁ : List Edge = set-next f₀ before s in
-    let f₂ : List Edge = set-previous f₁ after s in
-    let f₃ : List Edge = set-next f₂ e v in
-    let f₄ : List Edge = set-previous f₃ v e in
-    let l₀ : length f₀ ≡ 128 = set-length f s copy l in
-    let l₁ : length f₁ ≡ 128 = next-length f₀ before s l₀ in
-    let l₂ : length f₂ ≡ 128 = previous-length f₁ after s l₁ in
-    let l₃ : length f₃ ≡ 128 = next-length f₂ e v l₂ in
-    let l₄ : length f₄ ≡ 128 = previous-length f₃ v e l₃ in
-    met-by-sets (links f) (links f₀) (links f₁) (links f₂) (links f₃) (links f₄) (links (set-start f₄ v p t)) v e s
-    (put-set f l s copy refl hs) (next-set f₀ l₀ before s hb) (previous-set f₁ l₁ after s hn) (next-set f₂ l₂ e v he) (previous-set f₃ l₃ v e hv)
-    (start-same f₄ l₄ v p t)
+    let l₀ = set-length f s copy l in
+    let l₁ = next-length (set f s copy) before s l₀ in
+    let l₂ = previous-length (set-next (set f s copy) before s) after s l₁ in
+    met-by-sets _ _ _ _ _ _ _ v e s (put-set f l s copy refl hs) (next-set _ l₀ _ _ hb) (previous-set _ l₁ _ _ hn) (next-set _ l₂ _ _ he)
+    (previous-set _ (next-length _ _ _ l₂) _ _ hv) (start-same _ (previous-length _ _ _ (next-length _ _ _ l₂)) v p t)
     bs ns es vs be nv

@@ -15,7 +15,6 @@ use Rattle.error.specs.declared.Refusal.{Refusal}
 use Rattle.error.specs.Refusals.{granted, number}
 use Rattle.loops.specs.Loop.{rounds}
 use Rattle.ring.specs.Ring.{vertex-at}
-use Rattle.polygon.specs.Outlines.{proper}
 use Rattle.front.specs.Loading.{load-ring, loaded-nothing, Loads, outer, hole}
 use Rattle.front.specs.Sweeps.{sweep-from, sweep-step, finished, offset-rings}
 use Rattle.front.specs.Demand.{going, turns, run, tally, handed, FrontDemand}
