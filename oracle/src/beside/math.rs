@@ -1,0 +1,13 @@
+//! `crate::math`: kinavis's own, with `hypot` chosen at start-up.
+
+#[rustfmt::skip]
+#[path = "../kinavis/kernel/math.rs"]
+mod kernel;
+
+pub use crate::hypot::chosen as hypot;
+pub use kernel::*;
+
+/// `hypot` as kinavis has it.
+pub fn library_hypot(x: f64, y: f64) -> f64 {
+    kernel::hypot(x, y)
+}

@@ -1,0 +1,317 @@
+//! The correctly rounded `hypot` against its definition, in big whole numbers.
+
+use std::cmp::Ordering;
+
+use oracle::draw::Draw;
+use oracle::hypot::exact;
+
+/// A whole number, 32 bits a limb, lowest first, no zero limb on top.
+#[derive(Clone, Debug, PartialEq, Eq)]
+struct Big(Vec<u32>);
+
+impl Big {
+    /// m × 2^shift.
+    fn new(m: u64, shift: u32) -> Self {
+        let mut limbs = vec![0; (shift / 32) as usize];
+        let wide = u128::from(m) << (shift % 32);
+        for k in 0..4 {
+            limbs.push((wide >> (32 * k)) as u32);
+        }
+        Self(limbs).trimmed()
+    }
+
+    fn trimmed(mut self) -> Self {
+        while self.0.last() == Some(&0) {
+            self.0.pop();
+        }
+        self
+    }
+
+    fn plus(&self, other: &Self) -> Self {
+        let mut sum = Vec::new();
+        let mut carry = 0_u64;
+        for k in 0..self.0.len().max(other.0.len()) {
+            carry += u64::from(*self.0.get(k).unwrap_or(&0));
+            carry += u64::from(*other.0.get(k).unwrap_or(&0));
+            sum.push(carry as u32);
+            carry >>= 32;
+        }
+        sum.push(carry as u32);
+        Self(sum).trimmed()
+    }
+
+    fn squared(&self) -> Self {
+        let mut product = vec![0_u32; 2 * self.0.len() + 1];
+        for (i, a) in self.0.iter().enumerate() {
+            let mut carry = 0_u64;
+            for (j, b) in self.0.iter().enumerate() {
+                carry += u64::from(product[i + j]) + u64::from(*a) * u64::from(*b);
+                product[i + j] = carry as u32;
+                carry >>= 32;
+            }
+            product[i + self.0.len()] = carry as u32;
+        }
+        Self(product).trimmed()
+    }
+
+    fn order(&self, other: &Self) -> Ordering {
+        let by_length = self.0.len().cmp(&other.0.len());
+        by_length.then_with(|| self.0.iter().rev().cmp(other.0.iter().rev()))
+    }
+}
+
+/// A finite magnitude as m × 2^(e − 1074).
+fn parts(x: f64) -> (u64, u32) {
+    let bits = x.abs().to_bits();
+    let fraction = bits & 0xf_ffff_ffff_ffff;
+    match (bits >> 52) as u32 {
+        0 => (fraction, 0),
+        field => (fraction + 0x10_0000_0000_0000, field - 1),
+    }
+}
+
+/// How x² + y² compares with the square of the number halfway from the finite
+/// magnitude of these bits to the next one up (past the largest: to where the
+/// next one would be).
+fn against_halfway(x: f64, y: f64, bits: u64) -> Ordering {
+    let ((m, e), (n, f)) = (parts(x), parts(y));
+    let (k, g) = parts(f64::from_bits(bits));
+    let lowest = e.min(f).min(g);
+    let sum = Big::new(m, e - lowest + 1)
+        .squared()
+        .plus(&Big::new(n, f - lowest + 1).squared());
+    sum.order(&Big::new(2 * k + 1, g - lowest).squared())
+}
+
+const LARGEST: u64 = 0x7fef_ffff_ffff_ffff;
+
+/// Whether h is the finite or infinite double nearest to the root of x² + y²,
+/// of two equally near the even one.
+fn is_nearest(x: f64, y: f64, h: f64) -> bool {
+    let bits = h.to_bits();
+    if bits > LARGEST + 1 {
+        return false;
+    }
+    let even = bits % 2 == 0;
+    let not_below = bits == 0
+        || match against_halfway(x, y, bits - 1) {
+            Ordering::Greater => true,
+            Ordering::Equal => even,
+            Ordering::Less => false,
+        };
+    let not_above = bits > LARGEST
+        || match against_halfway(x, y, bits) {
+            Ordering::Less => true,
+            Ordering::Equal => even,
+            Ordering::Greater => false,
+        };
+    not_below && not_above
+}
+
+/// The nearest double found by halving the range of all of them.
+fn slow(x: f64, y: f64) -> f64 {
+    let (mut low, mut high) = (0_u64, LARGEST + 1);
+    while low < high {
+        let middle = low + (high - low) / 2;
+        let here = match against_halfway(x, y, middle) {
+            Ordering::Less => true,
+            Ordering::Equal => middle % 2 == 0,
+            Ordering::Greater => false,
+        };
+        if here {
+            high = middle;
+        } else {
+            low = middle + 1;
+        }
+    }
+    f64::from_bits(low)
+}
+
+fn check(x: f64, y: f64) {
+    let h = exact(x, y);
+    assert!(
+        is_nearest(x, y, h),
+        "hypot({:016x}, {:016x}) = {:016x}",
+        x.to_bits(),
+        y.to_bits(),
+        h.to_bits()
+    );
+    assert_eq!(h.to_bits(), exact(y, x).to_bits());
+    assert_eq!(h.to_bits(), exact(-x, y).to_bits());
+}
+
+fn float(draw: &mut Draw, low: u64, high: u64) -> f64 {
+    let field = low + draw.bits() % (high - low + 1);
+    f64::from_bits(field << 52 | draw.bits() >> 12)
+}
+
+/// A double some units away.
+fn beside(x: f64, by: i64) -> f64 {
+    f64::from_bits(x.to_bits().saturating_add_signed(by).min(LARGEST))
+}
+
+fn rounds(release: usize) -> usize {
+    if cfg!(debug_assertions) {
+        release / 10
+    } else {
+        release
+    }
+}
+
+#[test]
+fn special_values() {
+    let (inf, nan) = (f64::INFINITY, f64::NAN);
+    for x in [0.0, -0.0, 1.0, f64::MAX, 5e-324, inf, -inf, nan] {
+        for infinite in [inf, -inf] {
+            assert_eq!(exact(x, infinite), inf);
+            assert_eq!(exact(infinite, x), inf);
+        }
+        if !x.is_infinite() {
+            assert!(exact(x, nan).is_nan());
+            assert!(exact(nan, x).is_nan());
+        }
+    }
+    assert_eq!(exact(0.0, -0.0).to_bits(), 0);
+    assert_eq!(exact(-0.0, -0.0).to_bits(), 0);
+    assert_eq!(exact(3.0, 4.0), 5.0);
+    assert_eq!(exact(-3.0, 4.0), 5.0);
+    assert_eq!(exact(5e-324, 0.0), 5e-324);
+    assert_eq!(exact(5e-324, 5e-324), 5e-324);
+    assert_eq!(exact(f64::MAX, 0.0), f64::MAX);
+    assert_eq!(exact(f64::MAX, f64::MAX), inf);
+}
+
+#[test]
+fn the_slow_root_agrees() {
+    let mut draw = Draw::new(11);
+    for k in 0..rounds(3000) {
+        let x = float(&mut draw, 0, 2046);
+        let field = (x.to_bits() >> 52) as i64;
+        let other = (field + draw.whole(-40, 40)).clamp(0, 2046) as u64;
+        let y = if k % 8 == 0 {
+            float(&mut draw, 0, 2046)
+        } else {
+            float(&mut draw, other, other)
+        };
+        assert_eq!(exact(x, y).to_bits(), slow(x, y).to_bits());
+        check(x, y);
+    }
+}
+
+#[test]
+fn any_bits() {
+    let mut draw = Draw::new(12);
+    for _ in 0..rounds(20_000) {
+        check(float(&mut draw, 0, 2046), float(&mut draw, 0, 2046));
+    }
+}
+
+#[test]
+fn every_gap() {
+    let mut draw = Draw::new(13);
+    for _ in 0..rounds(1_000_000) {
+        let gap = draw.bits() % 33;
+        let field = gap + draw.bits() % (2047 - gap);
+        check(
+            float(&mut draw, field, field),
+            float(&mut draw, field - gap, field - gap),
+        );
+    }
+}
+
+/// x² + y² as near to (x + k + ½ units)² as a double y can make it.
+#[test]
+fn near_ties() {
+    let mut draw = Draw::new(14);
+    for _ in 0..rounds(700_000) {
+        let m = 1 << 52 | draw.bits() >> 12;
+        let k = draw.bits() >> (12 + draw.below(52));
+        let (m, k) = (m as f64, k as f64 + 0.5);
+        let y = (2.0 * k * m + k * k).sqrt();
+        if y > m {
+            continue;
+        }
+        let shift = f64::from_bits(((1 + draw.bits() % 1900) << 52) & !0);
+        let y = beside(y, draw.whole(-2, 2));
+        check(m, y);
+        if (m * shift).is_finite() && y * shift >= f64::MIN_POSITIVE {
+            check(m * shift, y * shift);
+        }
+    }
+}
+
+/// Right triangles in whole numbers whose longest side needs 54 bits.
+#[test]
+fn exact_ties() {
+    let mut draw = Draw::new(15);
+    let mut met = 0;
+    for _ in 0..rounds(400_000) {
+        let p = draw.bits() % (1 << 27);
+        let q = draw.bits() % (1 << 27);
+        let (p, q) = (p.max(q), p.min(q));
+        let long = p * p + q * q;
+        let legs = (p * p - q * q, 2 * p * q);
+        if long >> 53 != 1 || long % 2 == 0 || q == 0 {
+            continue;
+        }
+        let (x, y) = (legs.0 as f64, legs.1 as f64);
+        if x as u64 != legs.0 || y as u64 != legs.1 {
+            continue;
+        }
+        met += 1;
+        assert_eq!(exact(x, y) as u64 % 4, 0);
+        for by in -1..=1 {
+            check(beside(x, by), y);
+            check(x, beside(y, by));
+        }
+        let down = f64::from_bits((1 + draw.bits() % 900) << 52);
+        check(x * down, y * down);
+    }
+    assert!(met > rounds(20_000));
+}
+
+#[test]
+fn whole_triangles() {
+    let mut draw = Draw::new(16);
+    for _ in 0..rounds(200_000) {
+        let (x, y) = (draw.whole(0, 5000) as f64, draw.whole(0, 5000) as f64);
+        check(x, y);
+    }
+}
+
+#[test]
+fn subnormal() {
+    let mut draw = Draw::new(17);
+    for _ in 0..rounds(300_000) {
+        let (s, t) = (draw.below(53), draw.below(53));
+        let x = f64::from_bits(draw.bits() >> (12 + s.min(51)));
+        let y = f64::from_bits(draw.bits() >> (12 + t.min(51)));
+        check(x, y);
+        check(float(&mut draw, 0, 3), y);
+        check(float(&mut draw, 0, 30), float(&mut draw, 0, 30));
+    }
+}
+
+#[test]
+fn about_the_largest() {
+    let mut draw = Draw::new(18);
+    let mut over = 0;
+    for _ in 0..rounds(200_000) {
+        let x = float(&mut draw, 2044, 2046);
+        let half = (f64::MAX / 2.0).powi(1);
+        // y from x² + y² near the largest square.
+        let (s, r) = (x / 2.0 / half, 1.0);
+        let rest: f64 = r - s * s;
+        let y = rest.max(0.0).sqrt() * half * 2.0;
+        let y = beside(y.min(f64::MAX), draw.whole(-3, 3));
+        check(x, y);
+        check(x, float(&mut draw, 2015, 2046));
+        over += usize::from(exact(x, y).is_infinite());
+    }
+    assert!(over > 0);
+    // The largest double and half a unit more.
+    let root = f64::from_bits((2046 - 26) << 52 | 0x6_a09e_667f_3bcd);
+    for by in -20_000..20_000 {
+        check(f64::MAX, beside(root, by));
+    }
+}
