@@ -218,19 +218,25 @@ plain-accepted : (o : Outline) (outward : Bool) (d : Float) (r : Refusal) → gr
 unfolding offset-plain
 plain-accepted o outward d r h = record { proper = λ q. absurd (false≢true (sym h ∙ q)); clear = λ q. absurd (false≢true (sym h ∙ q)) }
 
+from-accepts : (o : Outline) (outward : Bool) (d : Float) (s : Sweep) → AcceptedOffset o outward d (offset-from o outward d s)
+unfolding offset-from offset-counted
+from-accepts o outward d s =
+    let n : NewOutline = offset-swept o outward d s in
+    let a : Accepted o outward d (n .refusal) (n .shape) = swept-accepted o outward d s .accepted in
+    record { proper = λ q. good-proper 128 (n .shape .points) (n .shape .count) (a .good q); clear = λ q e. a .clear q }
+
+by-accepts : (o : Outline) (outward : Bool) (d : Float) (r : Refusal) → proper 128 (o .points) (o .count) ≡ true → AcceptedOffset o outward d (offset-by o outward d r)
+unfolding offset-by offset-plain
+by-accepts o outward d r p =
+    either (AcceptedOffset o outward d) (granted r)
+    (λ g. either (AcceptedOffset o outward d) (eq d zero-float) (λ z. record { proper = λ q. p; clear = λ q e. absurd (false≢true (sym e ∙ z)) })
+    (λ z. from-accepts o outward d (sweep o outward d)))
+    (λ g. plain-accepted o outward d r g)
+
 offset-accepts : (o : Outline) (outward : Bool) (d : Float) → AcceptedOffset o outward d (offset o outward d)
-unfolding offset offset-by offset-plain offset-from offset-counted granted number values
+unfolding offset granted number values
 offset-accepts o outward d =
-    either (AcceptedOffset o outward d) (proper 128 (o .points) (o .count))
-    (λ p. either (AcceptedOffset o outward d) (granted (check-distance d))
-    (λ g. either (AcceptedOffset o outward d) (eq d zero-float)
-    (λ z. record { proper = λ q. p; clear = λ q e. absurd (false≢true (sym e ∙ z)) })
-    (λ z.
-    let n : NewOutline = offset-swept o outward d (sweep o outward d) in
-    let a : Accepted o outward d (n .refusal) (n .shape) = swept-accepted o outward d (sweep o outward d) .accepted in
-    record { proper = λ q. good-proper 128 (n .shape .points) (n .shape .count) (a .good q); clear = λ q e. a .clear q }))
-    (λ g. plain-accepted o outward d (check-distance d) g))
-    (λ p. plain-accepted o outward d Shape refl)
+    either (AcceptedOffset o outward d) (proper 128 (o .points) (o .count)) (λ p. by-accepts o outward d (check-distance d) p) (λ p. plain-accepted o outward d Shape refl)
 
 pub offset-proper : OffsetProper
 offset-proper o outward d q = offset-accepts o outward d .proper q

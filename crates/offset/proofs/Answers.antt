@@ -30,13 +30,12 @@ use Rattle.ring.specs.Ring.{vertex-at, signed-area, extent}
 use Rattle.locate.specs.Meet.{rings-meet}
 use Rattle.ringcheck.specs.Checks.{check-ring}
 use Rattle.polygon.specs.Outlines.{proper, no-outline, stored-outline, outline-refused, outline-of, outline-if, new-outline, outline, offset-tolerance, check-finite}
-use Rattle.front.specs.Loading.{loaded-nothing}
 use Rattle.front.specs.Sweeps.{sweep-from, offset-rings}
 use Rattle.front.specs.Demand.{Demand}
 use Rattle.front.specs.Loading.{outer}
 use Rattle.front.proofs.Demand.Whole.{loads-other}
 use Rattle.front.proofs.Demand.Small.{down-pos}
-use Rattle.front.proofs.Demand.Shapes.{Proper, proper-is}
+use Rattle.front.proofs.Demand.Shapes.{proper-is}
 use Rattle.front.proofs.Demand.Choice.{and-left}
 use Rattle.offset.specs.Offsets.{max-distance, check-distance, pieces-refused, expected, with-piece, visit-piece, pieces-refusal, pieces, keeps-clear, offset-clear, offset-found, offset-finished, offset-swept, offset-counted, offset-plain, outline-load, sweep, offset-from, offset-by, offset}
 use Rattle.offset.specs.Rings.{offset-piece}
@@ -139,26 +138,44 @@ module _ (o : Outline) (outward : Bool) (d : Float) (s : Sweep) where
   swept-own =
       both (OwnOutline u) (granted (s .refusal)) (finished-own (offset-tolerance d (extent (o .points) (o .count))) (s .edges)) (refused-own u (self-own u))
 
-record Told (n r : ℕ) (a : Offset) : Type 0 where
-  told : AnswerDemand n r (a .refusal) (a .collapses) (a .divides) (a .joins)
+record Told (n : ℕ) (a : Offset) : Type 0 where
+  told : AnswerDemand n 1 (a .refusal) (a .collapses) (a .divides) (a .joins)
+
+plain-told : (n : ℕ) (u : Refusal) (o : Outline) → 3 ≤ n → Other u → Told n (offset-plain u o)
+unfolding offset-plain
+plain-told n u o h z = record { told = plain-demand n 1 u (omega arith) z }
+
+module _ (o : Outline) (outward : Bool) (d : Float) (q : proper 128 (o .points) (o .count) ≡ true) where
+  abbrev load : Loaded
+  load = outline-load o outward d
+
+  load-not-18 : Other (load .refusal)
+  load-not-18 = record { no = loads-other d (vertex-at (o .points) 0) (o .count) 1 load (outer (o .points) (o .count) outward q) }
+
+  from-told : finite d ≡ true → Told (o .count) (offset-from o outward d (offset-rings d load))
+  unfolding offset-from offset-counted
+  from-told near =
+      let s : Sweep = offset-rings d load in
+      let D : Demand (o .count) 1 d load = outline-demand o outward d q near in
+      record {
+        told = answer-demand (o .count) 1 (s .refusal) ((offset-swept o outward d s) .refusal) (s .collapses) (s .divides) (s .joins) (D .counts) (D .most) (D .unfinished)
+            (sweep-carried d load load-not-18) (swept-own o outward d s .owned);
+      }
+
+  by-told : Told (o .count) (offset-by o outward d (check-distance d))
+  unfolding offset-by sweep
+  by-told =
+      let p : 3 ≤ o .count = proper-is 128 (o .points) (o .count) q .three in
+      either (Told (o .count)) (granted (check-distance d))
+      (λ z. both (Told (o .count)) (eq d zero-float) (plain-told (o .count) Granted o p granted-other) (from-told (distance-finite d z)))
+      (λ z. plain-told (o .count) (check-distance d) no-outline p (distance-other d))
+
+  whole-told : Told (o .count) (offset o outward d)
+  unfolding offset
+  whole-told = either (Told (o .count)) (proper 128 (o .points) (o .count)) (λ e. by-told) (λ e. absurd (false≢true (sym e ∙ q)))
 
 pub offset-demand : OffsetDemand
-unfolding offset offset-by offset-plain offset-from offset-counted sweep
-offset-demand o outward d q =
-    let p : Proper 128 (o .points) (o .count) = proper-is 128 (o .points) (o .count) q in
-    let l : Loaded = outline-load o outward d in
-    let s : Sweep = offset-rings d l in
-    either (Told (o .count) 1) (proper 128 (o .points) (o .count))
-    (λ e. either (Told (o .count) 1) (granted (check-distance d))
-    (λ z. both (Told (o .count) 1) (eq d zero-float) (record { told = plain-demand (o .count) 1 Granted (omega (arith, p .three)) granted-other })
-    (let D : Demand (o .count) 1 d l = outline-demand o outward d q (distance-finite d z) in
-    record {
-      told = answer-demand (o .count) 1 (s .refusal) ((offset-swept o outward d s) .refusal) (s .collapses) (s .divides) (s .joins) (D .counts) (D .most) (D .unfinished)
-          (sweep-carried d l (record { no = loads-other d (vertex-at (o .points) 0) (o .count) 1 l (outer (o .points) (o .count) outward q) }))
-          (swept-own o outward d s .owned);
-    }))
-    (λ z. record { told = plain-demand (o .count) 1 (check-distance d) (omega (arith, p .three)) (distance-other d) }))
-    (λ e. absurd (false≢true (sym e ∙ q))) .told
+offset-demand o outward d q = whole-told o outward d q .told
 
 -- ---- the shape beside a refusal
 
@@ -213,14 +230,16 @@ plain-empty : (u : Refusal) → EmptyOffset (offset-plain u no-outline)
 unfolding offset-plain
 plain-empty u = record { empty = λ q. no-outline-empty }
 
-offset-empty-of : (o : Outline) (outward : Bool) (d : Float) → EmptyOffset (offset o outward d)
-unfolding offset offset-by offset-from offset-counted offset-plain
-offset-empty-of o outward d =
-    both EmptyOffset (proper 128 (o .points) (o .count))
-    (both EmptyOffset (granted (check-distance d))
+by-empty : (o : Outline) (outward : Bool) (d : Float) (r : Refusal) → EmptyOffset (offset-by o outward d r)
+unfolding offset-by offset-from offset-counted offset-plain
+by-empty o outward d r =
+    both EmptyOffset (granted r)
     (both EmptyOffset (eq d zero-float) (record { empty = granted-empty o .empty }) (record { empty = swept-empty o outward d (sweep o outward d) .empty }))
-    (plain-empty (check-distance d)))
-    (plain-empty Shape)
+    (plain-empty r)
+
+offset-empty-of : (o : Outline) (outward : Bool) (d : Float) → EmptyOffset (offset o outward d)
+unfolding offset
+offset-empty-of o outward d = both EmptyOffset (proper 128 (o .points) (o .count)) (by-empty o outward d (check-distance d)) (plain-empty Shape)
 
 pub offset-empty : OffsetEmpty
 offset-empty o outward d = offset-empty-of o outward d .empty

@@ -102,8 +102,12 @@ by-other d tolerance w c h =
     both OtherPiece (granted (c .refusal)) {x = Whole (c .count) (c .back)} tt
     (both OtherPiece (vanished (w .points) (w .count) tolerance (c .refusal)) {x = Shrunk} {y = Failed (offset-failure d (c .refusal))} tt (failure-other d (c .refusal) (h .other)))
 
+check-piece-other : (room place : ℕ) (ps : List Float) (n : ℕ) → OtherCheck (check-piece room place ps n)
+unfolding check-piece check-ring
+check-piece-other room place ps n = kept-other room place ps (kept ps n)
+
 pub piece-other : (room place : ℕ) (d tolerance : Float) (w : Walk) → OtherPiece (offset-piece room place d tolerance w)
-unfolding offset-piece check-piece check-ring
+unfolding offset-piece
 piece-other room place d tolerance w =
     both OtherPiece (w .lost) {x = Failed (Splits d)} (splits-other d)
-    (by-other d tolerance w (check-kept room place (w .points) (kept (w .points) (w .count))) (kept-other room place (w .points) (kept (w .points) (w .count))))
+    (by-other d tolerance w (check-piece room place (w .points) (w .count)) (check-piece-other room place (w .points) (w .count)))

@@ -125,10 +125,16 @@ PassedPiece room w Shrunk = Unit {0}
 PassedPiece room w (Failed r) = Unit {0}
 PassedPiece room w (Whole n back) = Passed room (w .points) (w .count) n back
 
+-- questions 4 to 9 of a piece
+check-piece-sound : (room place : ℕ) (ps : List Float) (n : ℕ) → granted ((check-piece room place ps n) .refusal) ≡ true
+    → Passed room ps n ((check-piece room place ps n) .count) ((check-piece room place ps n) .back)
+unfolding check-piece
+check-piece-sound room place ps n h = check-sound room place ps n h
+
 pub piece-sound : (room place : ℕ) (d tolerance : Float) (w : Walk) → PassedPiece room w (offset-piece room place d tolerance w)
-unfolding offset-piece piece-by check-piece
+unfolding offset-piece piece-by
 piece-sound room place d tolerance w =
-    let c : Checked = check-ring room place (w .points) (w .count) in
+    let c : Checked = check-piece room place (w .points) (w .count) in
     both (PassedPiece room w) (w .lost) {x = Failed (Splits d)} tt
-    (either (PassedPiece room w) (granted (c .refusal)) {x = Whole (c .count) (c .back)} (λ h. check-sound room place (w .points) (w .count) h)
+    (either (PassedPiece room w) (granted (c .refusal)) {x = Whole (c .count) (c .back)} (λ h. check-piece-sound room place (w .points) (w .count) h)
     (λ h. both (PassedPiece room w) (vanished (w .points) (w .count) tolerance (c .refusal)) {x = Shrunk} {y = Failed (offset-failure d (c .refusal))} tt tt))

@@ -186,19 +186,23 @@ plain-accepted : (r : Region) (d : Float) (u : Refusal) → granted u ≡ false 
 unfolding region-plain
 plain-accepted r d u h = record { proper = λ q. absurd (false≢true (sym h ∙ q)); clear = λ q. absurd (false≢true (sym h ∙ q)) }
 
+from-accepts : (r : Region) (d : Float) (s : Sweep) → AcceptedInset r d (inset-from r d s)
+unfolding inset-from region-counted
+from-accepts r d s =
+    let n : NewRegion = inset-swept r d s in
+    let a : Accepted r d (n .refusal) (n .shape) = swept-accepted r d s .accepted in
+    record { proper = a .proper; clear = λ q e. a .clear q }
+
+by-accepts : (r : Region) (d : Float) (u : Refusal) → proper-region r ≡ true → AcceptedInset r d (inset-by r d u)
+unfolding inset-by region-plain
+by-accepts r d u p =
+    either (AcceptedInset r d) (granted u)
+    (λ g. either (AcceptedInset r d) (eq d zero-float) (λ z. record { proper = λ q. p; clear = λ q e. absurd (false≢true (sym e ∙ z)) }) (λ z. from-accepts r d (region-sweep r d)))
+    (λ g. plain-accepted r d u g)
+
 inset-accepts : (r : Region) (d : Float) → AcceptedInset r d (region-inset r d)
-unfolding region-inset inset-by region-plain inset-from region-counted granted number values
-inset-accepts r d =
-    either (AcceptedInset r d) (proper-region r)
-    (λ p. either (AcceptedInset r d) (granted (check-distance d))
-    (λ g. either (AcceptedInset r d) (eq d zero-float)
-    (λ z. record { proper = λ q. p; clear = λ q e. absurd (false≢true (sym e ∙ z)) })
-    (λ z.
-    let n : NewRegion = inset-swept r d (region-sweep r d) in
-    let a : Accepted r d (n .refusal) (n .shape) = swept-accepted r d (region-sweep r d) .accepted in
-    record { proper = a .proper; clear = λ q e. a .clear q }))
-    (λ g. plain-accepted r d (check-distance d) g))
-    (λ p. plain-accepted r d Shape refl)
+unfolding region-inset granted number values
+inset-accepts r d = either (AcceptedInset r d) (proper-region r) (λ p. by-accepts r d (check-distance d) p) (λ p. plain-accepted r d Shape refl)
 
 pub inset-proper : InsetProper
 inset-proper r d q = inset-accepts r d .proper q

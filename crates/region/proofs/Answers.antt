@@ -23,7 +23,7 @@ use Rattle.region.specs.declared.RegionLoad.{RegionLoad}
 use Rattle.region.specs.declared.RegionPieces.{RegionPieces}
 use Rattle.region.specs.declared.RegionOffset.{RegionOffset}
 use Rattle.math.specs.Number
-use Rattle.math.specs.Number.{zero-float}
+use Rattle.math.specs.Number.{finite, zero-float}
 use Rattle.error.specs.Refusals.{number, values, granted, region-failure}
 use Rattle.loops.specs.Loop.{rounds}
 use Rattle.loops.proofs.Laws.{rounds-keep}
@@ -140,23 +140,43 @@ module _ (r : Region) (d : Float) (s : Sweep) where
 record Told (n r : ℕ) (a : RegionOffset) : Type 0 where
   told : AnswerDemand n r (a .refusal) (a .collapses) (a .divides) (a .joins)
 
+module _ (r : Region) (d : Float) (q : proper-region r ≡ true) where
+  abbrev n : ℕ
+  n = edges-of r (r .holes)
+
+  abbrev m : ℕ
+  m = suc (r .holes)
+
+  abbrev load : Loaded
+  load = load-region r (vertex-at (r .outer .points) 0) d
+
+  plain-told : (u : Refusal) (p : Region) → Other u → Told n m (region-plain u p)
+  unfolding region-plain
+  plain-told u p z = record { told = plain-demand n m u (enough r d q) z }
+
+  from-told : finite d ≡ true → Told n m (inset-from r d (offset-rings d load))
+  unfolding inset-from region-counted
+  from-told near =
+      let s : Sweep = offset-rings d load in
+      let D : Demand n m d load = region-demand r d q near in
+      record {
+        told = answer-demand n m (s .refusal) ((inset-swept r d s) .refusal) (s .collapses) (s .divides) (s .joins) (D .counts) (D .most) (D .unfinished)
+            (sweep-carried d load (record { no = region-load-other r d q })) (swept-own r d s .owned);
+      }
+
+  by-told : Told n m (inset-by r d (check-distance d))
+  unfolding inset-by region-sweep
+  by-told =
+      either (Told n m) (granted (check-distance d))
+      (λ z. both (Told n m) (eq d zero-float) (plain-told Granted r granted-other) (from-told (distance-finite d z)))
+      (λ z. plain-told (check-distance d) no-region (distance-other d))
+
+  whole-told : Told n m (region-inset r d)
+  unfolding region-inset
+  whole-told = either (Told n m) (proper-region r) (λ e. by-told) (λ e. absurd (false≢true (sym e ∙ q)))
+
 pub inset-demand : InsetDemand
-unfolding region-inset inset-by region-plain inset-from region-counted region-sweep
-inset-demand r d q =
-    let n : ℕ = edges-of r (r .holes) in
-    let m : ℕ = suc (r .holes) in
-    let l : Loaded = load-region r (vertex-at (r .outer .points) 0) d in
-    let s : Sweep = offset-rings d l in
-    either (Told n m) (proper-region r)
-    (λ e. either (Told n m) (granted (check-distance d))
-    (λ z. both (Told n m) (eq d zero-float) (record { told = plain-demand n m Granted (enough r d q) granted-other })
-    (let D : Demand n m d l = region-demand r d q (distance-finite d z) in
-    record {
-      told = answer-demand n m (s .refusal) ((inset-swept r d s) .refusal) (s .collapses) (s .divides) (s .joins) (D .counts) (D .most) (D .unfinished)
-          (sweep-carried d l (record { no = region-load-other r d q })) (swept-own r d s .owned);
-    }))
-    (λ z. record { told = plain-demand n m (check-distance d) (enough r d q) (distance-other d) }))
-    (λ e. absurd (false≢true (sym e ∙ q))) .told
+inset-demand r d q = whole-told r d q .told
 
 -- ---- the shape beside a refusal
 
@@ -224,14 +244,16 @@ plain-empty : (u : Refusal) → EmptyInset (region-plain u no-region)
 unfolding region-plain
 plain-empty u = record { empty = λ q. no-region-empty }
 
-inset-empty-of : (r : Region) (d : Float) → EmptyInset (region-inset r d)
-unfolding region-inset inset-by inset-from region-counted region-plain
-inset-empty-of r d =
-    both EmptyInset (proper-region r)
-    (both EmptyInset (granted (check-distance d))
+by-empty : (r : Region) (d : Float) (u : Refusal) → EmptyInset (inset-by r d u)
+unfolding inset-by inset-from region-counted region-plain
+by-empty r d u =
+    both EmptyInset (granted u)
     (both EmptyInset (eq d zero-float) (record { empty = granted-empty r .empty }) (record { empty = swept-empty r d (region-sweep r d) .empty }))
-    (plain-empty (check-distance d)))
-    (plain-empty Shape)
+    (plain-empty u)
+
+inset-empty-of : (r : Region) (d : Float) → EmptyInset (region-inset r d)
+unfolding region-inset
+inset-empty-of r d = both EmptyInset (proper-region r) (by-empty r d (check-distance d)) (plain-empty Shape)
 
 pub inset-empty : InsetEmpty
 inset-empty r d = inset-empty-of r d .empty
