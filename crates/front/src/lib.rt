@@ -1,8 +1,5 @@
 // The front of an offset: 128 edges, linked into rings, which move at unit speed until they come to the distance.
 
-pub mod edges;
-pub mod lines;
-
 use error::Refusal;
 use plane::PlanarPoint;
 

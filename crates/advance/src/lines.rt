@@ -1,13 +1,13 @@
 // The line of an edge; the velocity and the meeting point of two lines.
 ghost use mathlib.Core.Path.{_≡_};
 ghost use mathlib.Core.Bool.{cond};
 ghost use Rattle.front.specs.declared.Place.the-variants.{Nowhere, There};
 ghost use Rattle.front.specs.declared.Through.the-variants.{NoLine, Along};
 ghost use Rattle.front.specs.Lines;
-use super::Edge;
-use super::Line;
-use super::Place;
-use super::Through;
+use front::Edge;
+use front::Line;
+use front::Place;
+use front::Through;
 use plane::PlanarPoint;
 
 // `Option`, as an enum: nothing where the test holds.
