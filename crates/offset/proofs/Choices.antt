@@ -1,6 +1,7 @@
--- What holds of both choices holds of the one taken; what a loop says that tests every round. Assumes nothing.
-use Prim.Native.Nat.{ℕ, zero, suc, _<_}
-use mathlib.Core.Path.{_≡_, refl, sym, ap, _∙_}
+-- What holds of both choices holds of the one taken; what a loop says that tests every round, or adds up. Assumes nothing.
+use Prim.Native.Nat.{ℕ, zero, suc, _+_, _-_, _≤_, _<_}
+use native.Mathlib.Nat.{zero-add, suc-add, sub-add-cancel}
+use mathlib.Core.Path.{_≡_, refl, sym, ap, _∙_, subst}
 use mathlib.Core.Bool.{Bool, true, false, cond, _&&_, _||_, false≢true}
 use native.Mathlib.Omega.{arith}
 use Rattle.loops.specs.Loop.{rounds}
@@ -51,3 +52,13 @@ module _ (f : ℕ → Bool → Bool) (test : ℕ → Bool) (body : (k : ℕ) (s 
       (λ i s h q k l.
       let z : (s || test i) ≡ false = sym (body i s) ∙ q in
       by-cases k i (λ e. rw e (or-right s (test i) z)) (λ e. h (or-left s (test i) z) k (omega arith)))
+
+-- a loop that adds up
+module _ (f : ℕ → ℕ → ℕ) (more : ℕ → ℕ) (body : (k s : ℕ) → f k s ≡ s + more k) where
+  pub sums-grow : (m n : ℕ) → rounds f m 0 ≤ rounds f (n + m) 0
+  unfolding rounds
+  sums-grow m zero = rw zero-add (omega arith)
+  sums-grow m (suc n) = rw suc-add (omega (arith, sums-grow m n, body (n + m) (rounds f (n + m) 0)))
+
+  pub sums-to : (m n : ℕ) → m ≤ n → rounds f m 0 ≤ rounds f n 0
+  sums-to m n l = subst (λ (i : ℕ). rounds f m 0 ≤ rounds f i 0) (sub-add-cancel l) (sums-grow m (n - m))

@@ -1,7 +1,7 @@
 -- A ring that passes 4 to 9 with finite numbers passes 21 and `check_simple` as it is stored. Assumes nothing.
 use lib.Ieee
 use Prim.Native.Nat.{ℕ, _+_, _-_, _*_, _/_, _%_, _^_, _≤_, _<_}
-use mathlib.Core.Path.{_≡_, refl, _∙_, subst}
+use mathlib.Core.Path.{_≡_, refl, ap, _∙_, subst}
 use mathlib.Core.Bool.{Bool, true, false, cond, _&&_, _||_, false≢true}
 use mathlib.Core.List.{List}
 use native.Mathlib.Omega.{arith}
@@ -67,6 +67,22 @@ within-le (fin s m e) f q = go (ltb a b) refl
     go true p = refl
     go false p = rw (eq-eqb a b (omega (arith, ltb-false a b p, ltb-false b a q))) refl
 
+-- numbers go two by two
+by-pairs : (P : ℕ → Type 0) (n : ℕ) → ((k : ℕ) → k < n → P (2 * k) × P (2 * k + 1)) → (i : ℕ) → i < 2 * n → P i
+by-pairs P n h i l = by-cases (i % 2) 0
+    (λ e. subst P {x = 2 * (i / 2)} (omega arith) (h (i / 2) (omega arith) .0))
+    (λ e. subst P {x = 2 * (i / 2) + 1} (omega arith) (h (i / 2) (omega arith) .1))
+
+number-same : (qs rs : List Float) (n : ℕ) → ((k : ℕ) → k < n → vertex-at rs k ≡ vertex-at qs k) → (i : ℕ) → i < 2 * n → getD rs i nan ≡ getD qs i nan
+unfolding vertex-at
+number-same qs rs n same =
+    by-pairs (λ (i : ℕ). getD rs i nan ≡ getD qs i nan) n (λ k l. (ap (λ (v : PlanarPoint). v .east) (same k l), ap (λ (v : PlanarPoint). v .north) (same k l)))
+
+pub proper-same : (room : ℕ) (qs rs : List Float) (n : ℕ) → ((k : ℕ) → k < n → vertex-at rs k ≡ vertex-at qs k) → proper room qs n ≡ true → proper room rs n ≡ true
+unfolding proper in-range in-range-step
+proper-same room qs rs n same q =
+    rw (rounds-same (in-range-step rs) (in-range-step qs) (2 * n) true (λ i l s. ap (λ (x : Float). s && le (abs x) max-coordinate) (number-same qs rs n same i l))) q
+
 -- ---- the stored ring
 
 pub record GoodRing (room : ℕ) (qs : List Float) (n : ℕ) : Type 0 where
@@ -79,11 +95,9 @@ pub record GoodRing (room : ℕ) (qs : List Float) (n : ℕ) : Type 0 where
 module _ (room : ℕ) (qs : List Float) (n : ℕ) (g : GoodRing room qs n) where
   number-near : (i : ℕ) → i < 2 * n → le (abs (getD qs i nan)) max-coordinate ≡ true
   unfolding vertex-at
-  number-near i l = by-cases (i % 2) 0
-      (λ e. subst (λ (j : ℕ). le (abs (getD qs j nan)) max-coordinate ≡ true) {x = 2 * (i / 2)} (omega arith)
-      (within-le (getD qs (2 * (i / 2)) nan) (g .finite (i / 2) (omega arith) .east) (g .within (i / 2) (omega arith) .east)))
-      (λ e. subst (λ (j : ℕ). le (abs (getD qs j nan)) max-coordinate ≡ true) {x = 2 * (i / 2) + 1} (omega arith)
-      (within-le (getD qs (2 * (i / 2) + 1) nan) (g .finite (i / 2) (omega arith) .north) (g .within (i / 2) (omega arith) .north)))
+  number-near =
+      by-pairs (λ (i : ℕ). le (abs (getD qs i nan)) max-coordinate ≡ true) n
+      (λ k l. (within-le (getD qs (2 * k) nan) (g .finite k l .east) (g .within k l .east), within-le (getD qs (2 * k + 1) nan) (g .finite k l .north) (g .within k l .north)))
 
   pub good-proper : proper room qs n ≡ true
   unfolding proper in-range in-range-step

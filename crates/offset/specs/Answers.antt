@@ -1,11 +1,11 @@
 -- What holds of the answers about an outline, whatever the shape, the side and the distance, finite or not: demand 3 of what is handed back, the empty shape beside a refusal,
--- the counts before loading, and what an accepted offset has passed. Proved in `proofs/Answers.antt` and `proofs/Accepted.antt`. Assumes nothing.
+-- the counts before loading, what an accepted offset has passed, and lent output. Proved in `proofs/Answers.antt`, `proofs/Accepted.antt` and `proofs/Lent.antt`. Assumes nothing.
 use Prim.Native.Nat.{ℕ, _+_, _*_, _≤_, _<_}
 use mathlib.Core.Path.{_≡_}
 use mathlib.Core.Bool.{Bool, true, false, cond}
 use mathlib.Core.List.{List, [], _∷_}
-use lib.ListN.{replicate}
-use lib.Ieee.{Float, lt, le, eq}
+use lib.ListN.{getD, length, replicate}
+use lib.Ieee.{Float, nan, lt, le, eq}
 use Rattle.plane.specs.declared.Containment.the-variants.{Inside, Outside}
 use Rattle.error.specs.declared.Refusal.{Refusal}
 use Rattle.error.specs.declared.Refusal.the-variants.{Granted, Shape}
@@ -20,7 +20,9 @@ use Rattle.ringcheck.specs.Simple.{check-simple}
 use Rattle.locate.specs.Contains.{ring-contains}
 use Rattle.locate.specs.Near.{nearest}
 use Rattle.polygon.specs.Outlines.{outline, proper, no-outline, relative-tolerance}
+use Rattle.polygon.specs.Queries.{outline-write, written-outline}
 use Rattle.offset.specs.Offsets.{offset, offset-plain, check-distance, outline-load}
+use Rattle.offset.specs.Lent.{offset-write, written-offset}
 
 -- ---- demand 3 of an answer
 
@@ -93,3 +95,20 @@ abbrev pub OffsetProper : Type 0
 OffsetProper =
     (o : Outline) (outward : Bool) (d : Float) → granted ((offset o outward d) .refusal) ≡ true →
     proper 128 ((offset o outward d) .shape .points) ((offset o outward d) .shape .count) ≡ true
+
+-- ---- lent output: a refused write changes nothing, and a granted one only the numbers that it writes
+
+-- `needed` numbers of ps go over the first ones of `out`, which is `now` afterwards
+pub record Wrote (u : Refusal) (needed : ℕ) (ps out now : List Float) : Type 0 where
+  pub refused : granted u ≡ false → now ≡ out
+  pub size : length now ≡ length out
+  pub numbers : granted u ≡ true → (i : ℕ) → i < needed → getD now i nan ≡ getD ps i nan
+  pub rest : (i : ℕ) → needed ≤ i → getD now i nan ≡ getD out i nan
+
+abbrev pub OutlineLent : Type 0
+OutlineLent = (o : Outline) (out : List Float) → Wrote (outline-write o out) (2 * o .count) (o .points) out (written-outline o out)
+
+abbrev pub OffsetLent : Type 0
+OffsetLent =
+    (o : Outline) (outward : Bool) (d : Float) (out : List Float) →
+    Wrote ((offset-write o outward d out) .refusal) (2 * (offset o outward d) .shape .count) ((offset o outward d) .shape .points) out (written-offset o outward d out)

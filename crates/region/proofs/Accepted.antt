@@ -35,25 +35,25 @@ use Rattle.offset.specs.Offsets.{check-distance}
 use Rattle.offset.proofs.Choices.{either, both, all-pass, none-pass}
 use Rattle.offset.proofs.Visits.{visits-keep}
 use Rattle.offset.proofs.Passes.{Passed, PassedPiece, piece-sound}
-use Rattle.offset.proofs.Good.{GoodRing}
+use Rattle.offset.proofs.Good.{GoodRing, good-ring, good-proper}
 use Rattle.offset.proofs.Walked.{GoodWalk, walk-good}
 use Rattle.offset.proofs.Accepted.{every-passes, none-meet, inside-is, outline-good, above-zero}
 use Rattle.region.specs.Regions.{no-region, ring-points, ring-count, with-outer, store-hole, region-contains, distance-to-boundary, region-extent}
 use Rattle.region.specs.Checks.{check-region, proper-region, region-refused}
 use Rattle.region.specs.Insets.{region-pieces-refused, is-outer, with-outer-piece, with-hole-piece, with-region-piece, visit-region-piece, region-pieces-refusal, region-pieces, clear-of-region, rings-clear-step, region-keeps-clear, crosses-ring-step, crosses-ring, crosses-step, crosses, inset-clear, inset-checked, inset-found, inset-finished, inset-swept, region-counted, region-plain, region-sweep, inset-from, inset-by, region-inset}
 use Rattle.region.specs.Answers.{RegionKeptClear, InsetAccepted, InsetProper}
-use Rattle.region.proofs.Holes.{GoodHoles, no-holes, outer-holes, store-holes, region-proper}
+use Rattle.region.proofs.Holes.{GoodHoles, good-of-holes, no-holes, outer-holes, store-holes, region-proper, good-holes-proper}
 
 -- ---- the pieces
 
 record GoodPieces (p : RegionPieces) : Type 0 where
   outer : p .found ≡ true → GoodRing 128 (p .shape .outer .points) (p .shape .outer .count)
   few : p .shape .holes ≤ 8
-  holes : GoodHoles (p .shape)
+  holes : GoodHoles (GoodRing 32) (p .shape)
 
 refused-pieces : (u : Refusal) → GoodPieces (region-pieces-refused u)
 unfolding region-pieces-refused no-region
-refused-pieces u = record { outer = λ q. absurd (false≢true q); few = omega arith; holes = no-holes }
+refused-pieces u = record { outer = λ q. absurd (false≢true q); few = omega arith; holes = no-holes (GoodRing 32) }
 
 module _ (d : Float) (w : Walk) (s : RegionPieces) (g : GoodWalk w) (h : GoodPieces s) where
   outer-good : (n : ℕ) (back : Bool) → Passed 128 (w .points) (w .count) n back → GoodPieces (with-outer-piece d w s n back)
@@ -63,7 +63,7 @@ module _ (d : Float) (w : Walk) (s : RegionPieces) (g : GoodWalk w) (h : GoodPie
       (record {
         outer = λ q. outline-good (w .points) (w .count) n back z (g .all);
         few = h .few;
-        holes = outer-holes (s .shape) (stored-outline (w .points) n back) (h .holes);
+        holes = outer-holes (GoodRing 32) (s .shape) (stored-outline (w .points) n back) (h .holes);
       })
 
   hole-good : (n : ℕ) (back : Bool) → Passed 32 (w .points) (w .count) n back → GoodPieces (with-hole-piece w s n back)
@@ -73,7 +73,7 @@ module _ (d : Float) (w : Walk) (s : RegionPieces) (g : GoodWalk w) (h : GoodPie
       (λ l. record {
         outer = h .outer;
         few = omega (arith, ltb-true (s .shape .holes) 8 l);
-        holes = store-holes (s .shape) (w .points) (w .count) n back (ltb-true (s .shape .holes) 8 l) z (g .all) (h .holes);
+        holes = store-holes (GoodRing 32) good-of-holes (s .shape) (w .points) n back (z .fits) (λ qs e. good-ring 32 (w .points) (w .count) n back qs z (g .all) e) (h .holes) (ltb-true (s .shape .holes) 8 l);
       })
       (λ l. refused-pieces (ManyPieces 9))
 
@@ -90,7 +90,7 @@ pieces-good f origin d tolerance =
     visits-keep GoodPieces region-pieces-refusal (visit-region-piece d tolerance) f d origin GoodWalk (walk-good f d origin)
     (λ place w g s h.
     with-good d w s g h (offset-piece (cond (is-outer w) 128 32) place d tolerance w) (piece-sound (cond (is-outer w) 128 32) place d tolerance w))
-    (record { refusal = Granted; found = false; shape = no-region }) (record { outer = λ q. absurd (false≢true q); few = omega arith; holes = no-holes })
+    (record { refusal = Granted; found = false; shape = no-region }) (record { outer = λ q. absurd (false≢true q); few = omega arith; holes = no-holes (GoodRing 32) })
 
 -- ---- an inset that keeps clear
 
@@ -112,7 +112,7 @@ module _ (r : Region) (d : Float) where
   abbrev least : Float
   least = Number.sub d tolerance
 
-  module _ (q : Region) (outer : GoodRing 128 (q .outer .points) (q .outer .count)) (few : q .holes ≤ 8) (holes : GoodHoles q) (checked : granted (check-region q) ≡ true)
+  module _ (q : Region) (outer : GoodRing 128 (q .outer .points) (q .outer .count)) (few : q .holes ≤ 8) (holes : GoodHoles (GoodRing 32) q) (checked : granted (check-region q) ≡ true)
       (a : region-keeps-clear least r q ≡ true) (b : crosses r q ≡ false) where
     rings-simple : (k : ℕ) → k ≤ q .holes → check-simple (ring-points q k) (ring-count q k) false ≡ Simple
     unfolding ring-points ring-count
@@ -163,7 +163,7 @@ module _ (r : Region) (d : Float) where
       (λ c. either (AcceptedNew r d) (a && not b)
       (λ e. record {
         accepted = record {
-          proper = λ t. region-proper q (g .outer z) (g .few) (g .holes);
+          proper = λ t. region-proper q (good-proper 128 (q .outer .points) (q .outer .count) (g .outer z)) (g .few) (good-holes-proper q (g .holes));
           clear = λ t. kept-clear q (g .outer z) (g .few) (g .holes) c (and-left a (not b) e) (not-true b (and-right a (not b) e));
         };
       })

@@ -1,12 +1,14 @@
 -- What holds of the answers about a region, whatever the shape and the distance, finite or not: demand 3 of what is handed back, the empty shape beside a refusal,
--- the counts before loading, and what an accepted inset has passed. Proved in `proofs/Answers.antt` and `proofs/Accepted.antt`. Assumes nothing.
-use Prim.Native.Nat.{ℕ, suc, _≤_, _<_}
+-- the counts before loading, what an accepted inset has passed, what passes 21, and lent output. Proved in `proofs/Answers.antt`, `proofs/Accepted.antt`,
+-- `proofs/Loaded.antt` and `proofs/Lent.antt`. Assumes nothing.
+use Prim.Native.Nat.{ℕ, suc, _+_, _*_, _≤_, _<_}
 use mathlib.Core.Path.{_≡_}
 use mathlib.Core.Bool.{true, false}
 use mathlib.Core.List.{List}
-use lib.ListN.{replicate}
-use lib.Ieee.{Float, lt, le, eq}
+use lib.ListN.{getD, length, replicate}
+use lib.Ieee.{Float, nan, lt, le, eq}
 use Rattle.plane.specs.declared.Containment.the-variants.{Inside}
+use Rattle.error.specs.declared.Refusal.{Refusal}
 use Rattle.error.specs.declared.Refusal.the-variants.{Granted, Shape}
 use Rattle.ringcheck.specs.declared.Crossing.the-variants.{Simple}
 use Rattle.polygon.specs.declared.Outline.{Outline}
@@ -24,6 +26,7 @@ use Rattle.offset.specs.Answers.{AnswerDemand, EmptyOutline}
 use Rattle.region.specs.Regions.{no-region, ring-points, ring-count, region-contains, distance-to-boundary, region-extent}
 use Rattle.region.specs.Checks.{check-region, proper-region, region, region-given, without-holes}
 use Rattle.region.specs.Insets.{region-plain, load-region, region-inset}
+use Rattle.region.specs.Queries.{before, needed, region-write, written-region, inset-write, written-inset}
 use Rattle.region.specs.Demand.{edges-of}
 
 -- ---- demand 3 of an inset: of all the edges, in one ring more than there are holes
@@ -93,3 +96,27 @@ InsetAccepted =
 
 abbrev pub InsetProper : Type 0
 InsetProper = (r : Region) (d : Float) → granted ((region-inset r d) .refusal) ≡ true → proper-region ((region-inset r d) .shape) ≡ true
+
+pub record ProperNewRegion (a : NewRegion) : Type 0 where
+  pub proper : granted (a .refusal) ≡ true → proper-region (a .shape) ≡ true
+
+-- a region from numbers, one from outlines, and one without holes
+pub record RegionProper : Type 0 where
+  pub loaded : (lengths : List ℕ) (ps : List Float) → ProperNewRegion (region lengths ps)
+  pub given : (o : Outline) (hs : List Outline) → ProperNewRegion (region-given o hs)
+  pub alone : (o : Outline) → ProperNewRegion (without-holes o)
+
+-- ---- lent output: a refused write changes nothing, and a granted one only the numbers that it writes
+
+-- the rings of r, one after the other, go over the first numbers of `out`, which is `now` afterwards
+pub record RingsWrote (u : Refusal) (r : Region) (out now : List Float) : Type 0 where
+  pub refused : granted u ≡ false → now ≡ out
+  pub size : length now ≡ length out
+  pub numbers : granted u ≡ true → (k i : ℕ) → k ≤ r .holes → i < 2 * ring-count r k → getD now (2 * before r k + i) nan ≡ getD (ring-points r k) i nan
+  pub rest : (i : ℕ) → needed r ≤ i → getD now i nan ≡ getD out i nan
+
+abbrev pub RegionLent : Type 0
+RegionLent = (r : Region) (out : List Float) → RingsWrote ((region-write r out) .refusal) r out (written-region r out)
+
+abbrev pub InsetLent : Type 0
+InsetLent = (r : Region) (d : Float) (out : List Float) → RingsWrote ((inset-write r d out) .refusal) ((region-inset r d) .shape) out (written-inset r d out)

@@ -1,0 +1,185 @@
+-- A region from numbers or from outlines that is accepted passes 21. Assumes nothing.
+use Prim.Native.Nat.{ℕ, suc, _+_, _-_, _*_, _%_, _≤_, _<_}
+use native.Mathlib.Numerals.{add-one}
+use mathlib.Core.Path.{_≡_, refl, sym, ap, _∙_, subst}
+use mathlib.Core.Bool.{Bool, true, false, _&&_, false≢true}
+use mathlib.Core.List.{List}
+use native.Mathlib.Omega.{arith}
+use borrow.Author.Tests.{leb-true, ltb-true, eqb-true}
+use lib.Dec.{leb, ltb, eqb}
+use lib.ListN.{getD, drop, length}
+use lib.Ieee.{Float}
+use Rattle.error.specs.declared.Refusal.{Refusal}
+use Rattle.error.specs.declared.Refusal.the-variants.{Lengths, Odd, Shape}
+use Rattle.ringcheck.specs.declared.Checked.{Checked}
+use Rattle.polygon.specs.declared.Outline.{Outline}
+use Rattle.region.specs.declared.Region.{Region}
+use Rattle.region.specs.declared.RegionLoad.{RegionLoad}
+use Rattle.error.specs.Refusals.{number, values, granted}
+use Rattle.loops.specs.Loop.{rounds}
+use Rattle.loops.proofs.Laws.{rounds-keep}
+use Rattle.ring.specs.Ring.{vertex-at, source, stored-at}
+use Rattle.ringcheck.specs.Checks.{check-ring}
+use Rattle.polygon.specs.Outlines.{proper, stored-outline, check-finite}
+use Rattle.front.proofs.Demand.Shapes.{proper-is, and-left, and-right}
+use Rattle.offset.proofs.Choices.{either, both, all-pass, sums-to}
+use Rattle.offset.proofs.Passes.{Passed, check-sound}
+use Rattle.offset.proofs.Good.{Finite, good-ring, good-proper, proper-same}
+use Rattle.offset.proofs.Accepted.{outline-good, finite-vertices}
+use Rattle.region.specs.Regions.{no-region, with-outer, store-hole, count-hole, with-hole}
+use Rattle.region.specs.Checks.{check-region, region-refused, region-if, rings-refused, hole-loaded, hole-load-step, outer-loaded, load-rings, region-loaded, total-step, total, region-finite, region, proper-region, given-hole, proper-given-step, proper-given, given-step, given-rings, region-given, without-holes}
+use Rattle.region.specs.Answers.{ProperNewRegion, RegionProper}
+use Rattle.region.proofs.Holes.{GoodHoles, ProperHole, proper-of-holes, hole-vertex, no-holes, outer-holes, with-holes, region-proper}
+
+-- ---- a region that passes 10 has eight holes at most
+
+record Few (r : Region) (u : Refusal) : Type 0 where
+  few : granted u ≡ true → r .holes ≤ 8
+
+checked-few : (r : Region) → Few r (check-region r)
+unfolding check-region granted number values
+checked-few r = either (Few r) (leb (r .holes) 8) (λ h. record { few = λ q. leb-true (r .holes) 8 h }) (λ h. record { few = λ q. absurd (false≢true q) })
+
+refused-proper : (u : Refusal) → granted u ≡ false → ProperNewRegion (region-refused u)
+unfolding region-refused
+refused-proper u h = record { proper = λ q. absurd (false≢true (sym h ∙ q)) }
+
+if-proper : (r : Region) → (r .holes ≤ 8 → proper-region r ≡ true) → ProperNewRegion (region-if r (check-region r))
+unfolding region-if
+if-proper r h = either ProperNewRegion (granted (check-region r)) (λ g. record { proper = λ q. h (checked-few r .few g) }) (λ g. refused-proper (check-region r) g)
+
+-- ---- the outer ring and the first eight holes pass 21
+
+record Sound (q : Region) : Type 0 where
+  outer : proper 128 (q .outer .points) (q .outer .count) ≡ true
+  holes : GoodHoles ProperHole q
+
+sound-proper : (q : Region) → Sound q → q .holes ≤ 8 → proper-region q ≡ true
+sound-proper q h l = region-proper q (h .outer) l (h .holes)
+
+alone-sound : (o : Outline) → proper 128 (o .points) (o .count) ≡ true → Sound (with-outer no-region o)
+unfolding with-outer
+alone-sound o h = record { outer = h; holes = outer-holes ProperHole no-region o (no-holes ProperHole) }
+
+outer-kept : (q : Region) (ps : List Float) (n : ℕ) (back : Bool) → (with-hole q ps n back) .outer ≡ q .outer
+unfolding with-hole store-hole count-hole
+outer-kept q ps n back = both (λ (r : Region). r .outer ≡ q .outer) (ltb (q .holes) 8) refl refl
+
+-- a hole more
+with-sound : (q : Region) (ps : List Float) (n : ℕ) (back : Bool) → n ≤ 32 → ((qs : List Float) → ((k : ℕ) → k < n → vertex-at qs k ≡ stored-at ps n back k) → ProperHole qs n)
+    → Sound q → Sound (with-hole q ps n back)
+with-sound q ps n back l new h = record {
+  outer = subst (λ (o : Outline). proper 128 (o .points) (o .count) ≡ true) (sym (outer-kept q ps n back)) (h .outer);
+  holes = with-holes ProperHole proper-of-holes q ps n back l new (h .holes);
+}
+
+-- ---- from numbers: the lengths of the first k rings
+
+module _ (lengths : List ℕ) (ps : List Float) (all : granted (check-finite ps) ≡ true) (some : 0 < length lengths) (enough : 2 * total lengths ≡ length ps) where
+  sum-less : (k : ℕ) → k ≤ length lengths → 2 * rounds (total-step lengths) k 0 ≤ length ps
+  unfolding total total-step
+  sum-less k l = omega (arith, enough, sums-to (total-step lengths) (λ i. getD lengths i 0) (λ i s. refl) k (length lengths) l)
+
+  -- after the outer ring and k holes
+  record Loading (k : ℕ) (s : RegionLoad) : Type 0 where
+    start : granted (s .refusal) ≡ true → s .start ≡ rounds (total-step lengths) (suc k) 0
+    sound : suc k ≤ length lengths → granted (s .refusal) ≡ true → Sound (s .shape)
+
+  outer-loading : Loading 0 (outer-loaded ps (getD lengths 0 0) (check-ring 128 0 ps (getD lengths 0 0)))
+  unfolding outer-loaded rounds total-step stored-outline
+  outer-loading =
+      let n : ℕ = getD lengths 0 0 in
+      let c : Checked = check-ring 128 0 ps n in
+      either (Loading 0) (granted (c .refusal))
+      (λ h. record {
+        start = λ q. omega arith;
+        sound = λ l q. alone-sound (stored-outline ps (c .count) (c .back))
+            (good-proper 128 ((stored-outline ps (c .count) (c .back)) .points) (c .count)
+            (outline-good ps n (c .count) (c .back) (check-sound 128 0 ps n h) (λ k z. finite-vertices ps all k (omega (arith, sum-less 1 l)))));
+      })
+      (λ h. record { start = λ q. absurd (false≢true (sym h ∙ q)); sound = λ l q. absurd (false≢true (sym h ∙ q)) })
+
+  module _ (k : ℕ) (s : RegionLoad) (g : granted (s .refusal) ≡ true) (h : Loading k s) where
+    abbrev qs : List Float
+    qs = drop (2 * s .start) ps
+
+    abbrev n : ℕ
+    n = getD lengths (k + 1) 0
+
+    ring-finite : suc (suc k) ≤ length lengths → (j : ℕ) → j < n → Finite (vertex-at qs j)
+    unfolding rounds total-step
+    ring-finite l j z =
+        rw (hole-vertex ps (2 * s .start) (s .start) j refl)
+        (finite-vertices ps all (s .start + j) (omega (arith, h .start g, sum-less (suc (suc k)) l, ap (λ (i : ℕ). getD lengths i 0) (add-one k))))
+
+    hole-loading : Loading (suc k) (hole-loaded s qs n (check-ring 32 (k + 1) qs n))
+    unfolding hole-loaded rings-refused rounds total-step
+    hole-loading =
+        let c : Checked = check-ring 32 (k + 1) qs n in
+        either (Loading (suc k)) (granted (c .refusal))
+        (λ e. record {
+          start = λ q. omega (arith, h .start g, ap (λ (i : ℕ). getD lengths i 0) (add-one k));
+          sound = λ l q.
+              let p : Passed 32 qs n (c .count) (c .back) = check-sound 32 (k + 1) qs n e in
+              with-sound (s .shape) qs (c .count) (c .back) (p .fits)
+              (λ rs same. good-proper 32 rs (c .count) (good-ring 32 qs n (c .count) (c .back) rs p (ring-finite l) same))
+              (h .sound (omega arith) g);
+        })
+        (λ e. record { start = λ q. absurd (false≢true (sym e ∙ q)); sound = λ l q. absurd (false≢true (sym e ∙ q)) })
+
+  step-loading : (k : ℕ) (s : RegionLoad) → Loading k s → Loading (suc k) (hole-load-step lengths ps k s)
+  unfolding hole-load-step
+  step-loading k s h =
+      either (Loading (suc k)) (granted (s .refusal)) (λ g. hole-loading k s g h)
+      (λ g. record { start = λ q. absurd (false≢true (sym g ∙ q)); sound = λ l q. absurd (false≢true (sym g ∙ q)) })
+
+  rings-sound : granted ((load-rings lengths ps) .refusal) ≡ true → Sound ((load-rings lengths ps) .shape)
+  unfolding load-rings
+  rings-sound q =
+      rounds-keep (hole-load-step lengths ps) Loading (outer-loaded ps (getD lengths 0 0) (check-ring 128 0 ps (getD lengths 0 0))) outer-loading step-loading (length lengths - 1)
+      .sound (omega arith) q
+
+loaded-proper : (lengths : List ℕ) (ps : List Float) → ProperNewRegion (region lengths ps)
+unfolding region region-finite region-loaded granted number values
+loaded-proper lengths ps =
+    let s : RegionLoad = load-rings lengths ps in
+    let a : Bool = ltb 0 (length lengths) in
+    let b : Bool = eqb (2 * total lengths) (length ps) in
+    both ProperNewRegion (eqb (length ps % 2) 0)
+    (either ProperNewRegion (granted (check-finite ps))
+    (λ f. either ProperNewRegion (a && b)
+    (λ t. either ProperNewRegion (granted (s .refusal))
+    (λ g. if-proper (s .shape) (sound-proper (s .shape) (rings-sound lengths ps f (ltb-true 0 (length lengths) (and-left a b t)) (eqb-true (2 * total lengths) (length ps) (and-right a b t)) g)))
+    (λ g. refused-proper (s .refusal) g))
+    (λ t. refused-proper Lengths refl))
+    (λ f. refused-proper (check-finite ps) f))
+    (refused-proper Odd refl)
+
+-- ---- from outlines
+
+given-sound : (o : Outline) (hs : List Outline) → proper-given o hs ≡ true → Sound (given-rings o hs)
+unfolding proper-given given-rings proper-given-step given-step stored-at source
+given-sound o hs q =
+    let a : Bool = proper 128 (o .points) (o .count) in
+    let b : Bool = rounds (proper-given-step hs) (length hs) true in
+    rounds-keep (given-step hs) (λ k r. k ≤ length hs → Sound r) (with-outer no-region o) (λ l. alone-sound o (and-left a b q))
+    (λ k r h l. given-one k r (all-pass (proper-given-step hs) (λ i. proper 32 ((given-hole hs i) .points) ((given-hole hs i) .count)) (λ i s. refl) (length hs) (and-right a b q) k l) (h (omega arith)))
+    (length hs) (omega arith)
+  where
+    given-one : (k : ℕ) (r : Region) → proper 32 ((given-hole hs k) .points) ((given-hole hs k) .count) ≡ true → Sound r → Sound (given-step hs k r)
+    given-one k r p h =
+        let g : Outline = given-hole hs k in
+        with-sound r (g .points) (g .count) false (proper-is 32 (g .points) (g .count) p .fits) (λ qs same. proper-same 32 (g .points) qs (g .count) same p) h
+
+given-proper : (o : Outline) (hs : List Outline) → ProperNewRegion (region-given o hs)
+unfolding region-given granted number values
+given-proper o hs =
+    either ProperNewRegion (proper-given o hs) (λ q. if-proper (given-rings o hs) (sound-proper (given-rings o hs) (given-sound o hs q))) (λ q. refused-proper Shape refl)
+
+alone-proper : (o : Outline) → ProperNewRegion (without-holes o)
+unfolding without-holes with-outer no-region granted number values
+alone-proper o =
+    either ProperNewRegion (proper 128 (o .points) (o .count)) (λ q. record { proper = λ t. sound-proper (with-outer no-region o) (alone-sound o q) (omega arith) }) (λ q. refused-proper Shape refl)
+
+pub region-again : RegionProper
+region-again = record { loaded = loaded-proper; given = given-proper; alone = alone-proper }
