@@ -108,6 +108,7 @@ gap m n k a b c = record {
         simp poly (omega arith)
 
 pub far : (a b : ℕ) → a < 2047 * 2 ^ 52 → 27 < exponent-of a - exponent-of b → ofBits binary64 a ≡ round-root binary64 (units-of a * units-of a + units-of b * units-of b)
+unfolding units-of
 far a b h g =
     let m = significand-of a in
     let n = significand-of b in
@@ -137,6 +138,7 @@ far a b h g =
 
 pub near : (a b m n x y root rest : ℕ) → m ≡ significand-of a → n ≡ significand-of b → x ≡ exponent-of a → y ≡ exponent-of b → y ≤ x
     → Twice (m * m * 2 ^ (2 * (x - y)) + n * n) (2 * (x - y)) root rest → Twice (units-of a * units-of a + units-of b * units-of b) (2 * x) root rest
+unfolding units-of
 near a b m n x y root rest p q i j l w =
     subst (λ (s : ℕ). Twice s (2 * x) root rest) (same-sum (same p i) (same q j)) (in-units m n (x - y) x y root rest (omega arith) w)
   where

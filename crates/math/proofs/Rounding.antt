@@ -1,15 +1,17 @@
 -- From a root with a few binary digits too many to the rounded root of the definition. Assumes nothing.
 use mathlib.Core.Path.{_≡_, sym, ap, _∙_, subst}
 use mathlib.Core.Logic.{_⊎_, inl, inr}
-use mathlib.Core.Bool.{false}
+use mathlib.Core.Bool.{Bool, true, false, cond, _&&_, _||_}
+use lib.Dec.{ltb, eqb}
+use borrow.Author.Tests.{ltb-true, ltb-false, lt-ltb, le-ltb, eq-eqb, ne-eqb}
 use Prim.Native.Nat.{ℕ, zero, suc, _+_, _*_, _/_, _%_, _^_, _≤_, _<_, compare}
-use native.Mathlib.Nat.{mul-le-mul, mul-le-mul-right, mul-lt-mul-of-pos-right, lt-of-lt-of-le, le-trans}
+use native.Mathlib.Nat.{mod-lt, mul-le-mul, mul-le-mul-right, mul-lt-mul-of-pos-right, lt-of-lt-of-le, le-trans}
 use native.Mathlib.Omega.{arith}
 use native.Mathlib.Numerals.{add-one}
 use lib.Pow.{pow-pos, pow-add}
 use lib.Ieee.{binary64, nearest, units}
 use Rattle.hypotenuse.specs.Hypot.{kept, round-root}
-use Rattle.math.specs.Parts.{Twice, Fourth}
+use Rattle.math.specs.Parts.{Twice, Fourth, Parts}
 use Rattle.hypotenuse.proofs.Poly.{poly}
 use Rattle.hypotenuse.proofs.Whole.{Digits, dropped-is, kept-is, nearest-lt, nearest-eq, nearest-gt}
 
@@ -169,6 +171,54 @@ module _ {s k g t rest : ℕ} (n : Near s k g t rest) where
       ap (λ (j : ℕ). units binary64 false (kept binary64 s j) j) (dropped-is d)
       ∙ ap (λ (x : ℕ). units binary64 false x k) (kept-is d ∙ fourth-is f)
 
+-- ---- a fourth, rounded: x is 1 where it goes up
+one-or-none : (b : Bool) → cond b 1 0 ≤ 1
+one-or-none true = omega arith
+one-or-none false = omega arith
+
+module _ (g rest x : ℕ) (e : x ≡ cond (ltb 2 (g % 4) || (eqb (g % 4) 2 && (ltb 0 rest || eqb (g / 4 % 2) 1))) 1 0) where
+  pub one-at-most : x ≤ 1
+  one-at-most = subst (λ (y : ℕ). y ≤ 1) (sym e) (one-or-none (ltb 2 (g % 4) || (eqb (g % 4) 2 && (ltb 0 rest || eqb (g / 4 % 2) 1))))
+
+  fewer : g % 4 < 3 → ltb 2 (g % 4) ≡ false
+  fewer h = le-ltb 2 (g % 4) (omega arith)
+
+  down : g % 4 < 2 → x ≡ 0
+  down h =
+      let a = fewer (omega arith) in
+      let b = ne-eqb (g % 4) 2 (λ (z : g % 4 ≡ 2). omega arith) in
+      rw (a, b) at e
+
+  tie : g % 4 ≡ 2 → rest ≡ 0 → x ≡ g / 4 % 2
+  tie h z =
+      let a = fewer (omega arith) in
+      let b = eq-eqb (g % 4) 2 h in
+      let c = le-ltb 0 rest (omega arith) in
+      go (g / 4 % 2) (mod-lt (g / 4) (omega arith)) (rw (a, b, c) at e)
+    where
+      go : (y : ℕ) → y < 2 → x ≡ cond (eqb y 1) 1 0 → x ≡ y
+      go zero l q = q
+      go (suc zero) l q = q
+      go (suc (suc y)) l q = absurd (omega arith)
+
+  past : g % 4 ≡ 2 → 0 < rest → x ≡ 1
+  past h z =
+      let a = fewer (omega arith) in
+      let b = eq-eqb (g % 4) 2 h in
+      let c = lt-ltb 0 rest z in
+      rw (a, b, c) at e
+
+  up-one : 2 < g % 4 → x ≡ 1
+  up-one h = let a = lt-ltb 2 (g % 4) h in rw a at e
+
+  pub fourth-of : Fourth g rest (g / 4 + x)
+  fourth-of = record {
+    down = λ (h : g % 4 < 2). let d = down h in omega arith;
+    tie = λ (h : g % 4 ≡ 2) (z : rest ≡ 0). let d = tie h z in omega arith;
+    past = λ (h : g % 4 ≡ 2) (z : 0 < rest). let d = past h z in omega arith;
+    up = λ (h : 2 < g % 4). let d = up-one h in omega arith;
+  }
+
 pub fourth-range : {g rest q : ℕ} → Fourth g rest q → (g / 4 ≤ q) × (q ≤ g / 4 + 1)
 fourth-range {g} {rest} {q} f = go (split (g % 4)) (split-rest rest)
   where
@@ -177,3 +227,27 @@ fourth-range {g} {rest} {q} f = go (split (g % 4)) (split-rest rest)
     go (inr (inl h)) (inl z) = let e = f .tie h z in omega arith
     go (inr (inl h)) (inr z) = let e = f .past h z in omega arith
     go (inr (inr h)) z = let e = f .up h in omega arith
+
+-- ---- the rounded root, from a root of 54 digits or fewer, or from one of 55
+module _ (x root rest q : ℕ) (small : root < 2 ^ 55) (full : 0 < x → 2 ^ 53 ≤ root) where
+  pub parts-of : (b : Bool) → ltb root (2 ^ 54) ≡ b → Fourth (cond b (root * 2) root) rest q → Parts q (cond b x (x + 1))
+  parts-of true e f =
+      let l = ltb-true root (2 ^ 54) e in
+      let r = fourth-range f in
+      record { q-le = omega arith; full = λ (p : 0 < x). let h = full p in omega arith }
+  parts-of false e f =
+      let l = ltb-false root (2 ^ 54) e in
+      let r = fourth-range f in
+      record { q-le = omega arith; full = λ (p : 0 < x + 1). omega arith }
+
+  pub scale-le : (b : Bool) → x ≤ 2045 → cond b x (x + 1) ≤ 2046
+  scale-le true h = omega arith
+  scale-le false h = omega arith
+
+  pub rounded-of : (b : Bool) (s : ℕ) → ltb root (2 ^ 54) ≡ b → Fourth (cond b (root * 2) root) rest q → Twice s (2 * x) root rest → round-root binary64 s ≡ units binary64 false q (cond b x (x + 1))
+  rounded-of true s e f w =
+      let l = ltb-true root (2 ^ 54) e in
+      round-root-is (near-one x w) (omega arith) (λ (p : 0 < x). let h = full p in omega arith) f
+  rounded-of false s e f w =
+      let l = ltb-false root (2 ^ 54) e in
+      round-root-is (near-two x w) (omega arith) (λ (p : 0 < x + 1). omega arith) f

@@ -12,6 +12,7 @@ use lib.Ieee.{Float, nan, inf, fin, binary64, odd, ofFields, ofBits, toBits, fit
 use lib.Ieee.Exact.{HasValue, odd-sign}
 use lib.Ieee.Bits.{ofBits-toBits, nanBits-is, nanBits-above, cond-no}
 use lib.Ieee.Compare.{differs-from-itself}
+use borrow.Author.Tests.{ltb-true, ltb-false}
 use Rattle.hypotenuse.proofs.Units.{count-of}
 use Rattle.hypotenuse.specs.Hypot.{hypot, round-root, count}
 use Rattle.math.specs.Parts.{Larger, units-of}
@@ -39,7 +40,7 @@ fields-value s (suc x) t h =
     less x = omega arith
 
 pub value-of : (b : ℕ) → b % 2 ^ 63 < 2047 * 2 ^ 52 → HasValue (ofBits binary64 b) (leb (2 ^ 63) b) (units-of (b % 2 ^ 63)) (2 ^ 1074)
-unfolding ofBits
+unfolding ofBits units-of
 value-of b h =
     subst (λ (t : ℕ). HasValue (ofFields binary64 (leb (2 ^ 63) b) (b % 2 ^ 63 / 2 ^ 52) (b % 2 ^ 52)) (leb (2 ^ 63) b) ((t + min (b % 2 ^ 63 / 2 ^ 52) 1 * 2 ^ 52) * 2 ^ (b % 2 ^ 63 / 2 ^ 52 - 1)) (2 ^ 1074))
     (sym (mod-mod-pow b 11 52))
@@ -126,7 +127,7 @@ hypot-swap (fin s m e) nan = refl
 hypot-swap (fin s m e) (inf t) = refl
 hypot-swap (fin s m e) (fin t n d) = ap (round-root binary64) (add-comm (count m e * count m e) (count n d * count n d))
 
-pub hypot-larger : (x y r : Float) → T (fits binary64 x) → T (fits binary64 y) → T (not (isNan x)) → T (not (isNan y))
+hypot-larger : (x y r : Float) → T (fits binary64 x) → T (fits binary64 y) → T (not (isNan x)) → T (not (isNan y))
     → toBits binary64 y % 2 ^ 63 ≤ toBits binary64 x % 2 ^ 63 → Larger (toBits binary64 x % 2 ^ 63) (toBits binary64 y % 2 ^ 63) r → r ≡ hypot x y
 unfolding hypot isNan
 hypot-larger nan y r f g n k l w = absurd n
@@ -145,6 +146,23 @@ hypot-larger (fin s m e) (fin t j d) r f g n k l w =
   where
     b : ℕ
     b = toBits binary64 (fin t j d) % 2 ^ 63
+
+-- the magnitudes in order, as a test picks them
+module _ (x y : Float) (a b : ℕ) (f : T (fits binary64 x)) (g : T (fits binary64 y)) (n : T (not (isNan x))) (k : T (not (isNan y))) (p : a ≡ toBits binary64 x % 2 ^ 63) (q : b ≡ toBits binary64 y % 2 ^ 63) where
+  pub picked-order : (t : Bool) → ltb a b ≡ t → (cond t a b ≤ cond t b a) × (cond t b a ≤ 2047 * 2 ^ 52)
+  picked-order true e = let l = ltb-true a b e in (omega arith, subst (λ (z : ℕ). z ≤ 2047 * 2 ^ 52) (sym q) (magnitude-le y g k))
+  picked-order false e = (ltb-false a b e, subst (λ (z : ℕ). z ≤ 2047 * 2 ^ 52) (sym p) (magnitude-le x f n))
+
+  pub picked-hypot : (t : Bool) (r : Float) → ltb a b ≡ t → Larger (cond t b a) (cond t a b) r → r ≡ hypot x y
+  picked-hypot true r e w =
+      let l : a ≤ b = picked-order true e .0 in
+      hypot-larger y x r g f k n (subst (λ (z : ℕ). z ≤ toBits binary64 y % 2 ^ 63) p (subst (λ (z : ℕ). a ≤ z) q l))
+      (subst (λ (z : ℕ). Larger (toBits binary64 y % 2 ^ 63) z r) p (subst (λ (z : ℕ). Larger z a r) q w))
+      ∙ hypot-swap y x
+  picked-hypot false r e w =
+      let l : b ≤ a = picked-order false e .0 in
+      hypot-larger x y r f g n k (subst (λ (z : ℕ). z ≤ toBits binary64 x % 2 ^ 63) q (subst (λ (z : ℕ). b ≤ z) p l))
+      (subst (λ (z : ℕ). Larger (toBits binary64 x % 2 ^ 63) z r) q (subst (λ (z : ℕ). Larger z b r) p w))
 
 pub hypot-nan-inf : (y : Float) → T (fits binary64 y) → T (not (isNan y)) → toBits binary64 y % 2 ^ 63 ≡ 2047 * 2 ^ 52 → inf false ≡ hypot nan y
 unfolding hypot isNan

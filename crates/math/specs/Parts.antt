@@ -57,7 +57,7 @@ exponent-of a = a / 2 ^ 52 - 1
 abbrev pub significand-of : ℕ → ℕ
 significand-of a = a % 2 ^ 52 + min (a / 2 ^ 52) 1 * 2 ^ 52
 
-abbrev pub units-of : ℕ → ℕ
+unfoldable pub units-of : ℕ → ℕ
 units-of a = significand-of a * 2 ^ exponent-of a
 
 -- what `of_magnitudes` makes of two patterns, of which a is the larger

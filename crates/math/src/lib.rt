@@ -83,8 +83,8 @@ pub fn hypot(x: f64, y: f64) -> f64
     }
     let a = root::magnitude(x);
     let b = root::magnitude(y);
-    if a < b {
-        return root::of_magnitudes(b, a);
-    }
-    root::of_magnitudes(a, b)
+    let less = a < b;
+    let high = root::pick(less, b, a);
+    let low = root::pick(less, a, b);
+    root::of_magnitudes(high, low)
 }

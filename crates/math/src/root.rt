@@ -1,6 +1,6 @@
 // The parts of `hypot`: the rounded root of a sum of two squares, worked out in whole numbers.
 ghost use mathlib.Core.Path.{_≡_};
-ghost use mathlib.Core.Bool.{not, false};
+ghost use mathlib.Core.Bool.{not, false, cond};
 ghost use Prim.Native.Nat.{ℕ, _+_, _-_, _*_, _/_, _%_, _^_, _≤_, _<_};
 ghost use lib.Dec.{T};
 ghost use lib.Ieee.{nan, binary64, toBits, ofBits, isNan, units};
@@ -33,6 +33,13 @@ struct Cut {
     hi: u64,
     lo: u64,
     lost: u64,
+}
+
+// a where the test holds, else b.
+pub(crate) fn pick(test: bool, a: u64, b: u64) -> u64
+    ensures { λ r. ⌜ r ≡ cond test a b ⌝ }
+{
+    if test { a } else { b }
 }
 
 // One binary digit of the root for each pair of binary digits of `word`, the highest first.
@@ -88,9 +95,17 @@ fn refine(start: Root, base: u64, mid: u64, low: u64) -> Root
     }
 }
 
-// Heron's step: a number nearer to the root of v than s.
-fn nearer(v: f64, s: f64) -> f64 {
-    (s + v / s) * 0.5
+// A number near 1 over the root of v, within some hundredths of it: half the exponent, turned round.
+fn start(v: f64) -> f64 {
+    if v != v {
+        return v;
+    }
+    f64::from_bits(0x5fe6_eb50_c7b5_37a9 - ((f64::to_bits(v) >> 1) & 0x3fff_ffff_ffff_ffff))
+}
+
+// Newton's step: a number nearer to 1 over the root of 2 * half than y.
+fn nearer(half: f64, y: f64) -> f64 {
+    y * (1.5 - half * y * y)
 }
 
 // The last 28 binary digits of x: of an x from 2^52 up to 2^53, the whole number x - 2^52 where that is below 2^28.
@@ -110,9 +125,9 @@ fn guess(hi: u64) -> u64
     ensures { λ r. ⌜ r < 2 ^ 28 ⌝ }
 {
     let v = (hi >> 3) as f64 * 8.0;
-    let first = v * 4.144e-9 + 5.278e7;
-    let root = nearer(v, nearer(v, nearer(v, first)));
-    last_digits(root - 0.4994 + 4503599627370496.0)
+    let half = v * 0.5;
+    let over = nearer(half, nearer(half, nearer(half, start(v))));
+    last_digits(v * over - 0.4994 + 4503599627370496.0)
 }
 
 // The root of hi: the guess where it is right, and digit by digit otherwise.
@@ -213,16 +228,7 @@ fn fourth(root: u64, rest: u64) -> u64
 {
     let q = root / 4;
     let r = root % 4;
-    if r < 2 {
-        return q;
-    }
-    if r > 2 {
-        return q + 1;
-    }
-    if rest > 0 {
-        return q + 1;
-    }
-    q + q % 2
+    q + pick((r > 2) | ((r == 2) & ((rest > 0) | (q % 2 == 1))), 1, 0)
 }
 
 // The exponent of a pattern without a sign, counted from the smallest.
@@ -268,10 +274,10 @@ fn rounded(x: u64, root: u64, rest: u64) -> u64
     requires { ⌜ (0 < x → 2 ^ 53 ≤ root) ⌝ }
     ensures { λ r. ⌜ (r ≤ 0x7ff0_0000_0000_0000) × ((s : ℕ) → Twice s (2 * x) root rest → ofBits binary64 r ≡ round-root binary64 s) ⌝ }
 {
-    if root < WORD {
-        return assemble(fourth(root * 2, rest), x);
-    }
-    assemble(fourth(root, rest), x + 1)
+    let short = root < WORD;
+    let digits = pick(short, root * 2, root);
+    let scale = pick(short, x, x + 1);
+    assemble(fourth(digits, rest), scale)
 }
 
 // The pattern of the rounded root of two finite patterns without a sign, b being at most a.
