@@ -20,7 +20,9 @@ use Rattle.front.specs.Lines.{direction, normal}
 use Rattle.front.specs.Edges.{vertex}
 use Rattle.front.specs.Tidying.{find-tidy}
 use Rattle.front.specs.Loading.{Loads}
-use Rattle.front.specs.Demand.{links, Looks, Each, tidied, found, run}
+use Rattle.front.specs.Sweeps.{offset-rings}
+use Rattle.front.specs.Links.{links}
+use Rattle.front.specs.Demand.{Looks, Each, tidied, found, run}
 
 -- ---- two lines
 
@@ -45,6 +47,8 @@ pub record Velocity (d : Float) (l : Loaded) : Type 0 where
   pub settled : Each (λ t. Looks t → ((tidied t) .changed ≡ false) × (find-tidy ((tidied t) .edges) (t .from .travelled) ≡ Settled)) (run d l)
   -- the live vertices of a tidied front all have a velocity
   pub moves : Each (λ t. Looks t → Moves ((tidied t) .edges)) (run d l)
+  -- at the distance too, where the front has come to it
+  pub ended : (offset-rings d l) .ended ≡ true → Moves ((offset-rings d l) .edges)
   -- so the search for the next event meets none without
   pub seeks : Each (λ t. Looks t → found t ≢ Stalled) (run d l)
   -- and neither does the event: a turn is refused by 17 only where tidying met a vertex without a velocity

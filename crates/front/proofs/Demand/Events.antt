@@ -6,18 +6,20 @@ use mathlib.Core.List.{List}
 use Prim.Native.Nat.{ℕ, suc, _+_, _<_}
 use native.Mathlib.Omega.{arith}
 use lib.Dec.{ltb}
+use lib.ListN.{length}
 use lib.Ieee.{Float}
 use Rattle.plane.specs.declared.PlanarPoint.{PlanarPoint}
 use Rattle.front.specs.declared.Edge.{Edge}
+use Rattle.front.specs.declared.Front.{Front}
 use Rattle.front.specs.declared.Vertex.{Vertex}
 use Rattle.front.specs.declared.Vertex.the-variants.{Moving}
 use Rattle.front.specs.Edges.{edge, set-start, remove, vertex, altered, anchor-at, anchor, then-remove, collapse}
 use Rattle.front.specs.Splitting.{free-step, free, one-ring, split-linked}
-use Rattle.front.specs.Demand.{Links, bit, links}
+use Rattle.front.specs.Links.{Links, bit, links, Out, Met}
 use Rattle.front.specs.Velocity.{Moves}
 use Rattle.front.proofs.Demand.Links
 use Rattle.front.proofs.Demand.Steps
-use Rattle.front.proofs.Demand.Links.{Out, Met, RingsOf, live-next, live-prev, prev-next, Same, out-after}
+use Rattle.front.proofs.Demand.Links.{RingsOf, live-next, live-prev, prev-next, Same, out-after}
 use Rattle.front.proofs.Demand.Steps.{Parted}
 use Rattle.front.proofs.Demand.Views.{live-in, remove-length, start-same, start-length, split-length, split-met}
 use Rattle.loops.proofs.Laws.{rounds-keep}
@@ -27,28 +29,27 @@ use Rattle.front.proofs.Demand.Tidying.{Tidied}
 
 -- ---- a collapse
 
+-- the front g after the collapse of x in f
+abbrev pub Collapsed : List Edge → ℕ → ℕ → ℕ → Front → Type 0
+Collapsed f events bound x g = (g .stalled ≡ false) × Kept (g .edges) (suc events) bound × Out (links f) (links (g .edges)) x
+
 collapse-at : (f : List Edge) (at : Float) (events bound x s : ℕ) (t : Float) → Tidied f at events bound → links f .live x ≡ 1 → (p v : PlanarPoint)
-    → ((then-remove x (anchor-at f s t (Moving p v))) .stalled ≡ false) × Kept ((then-remove x (anchor-at f s t (Moving p v))) .edges) (suc events) bound
+    → Collapsed f events bound x (then-remove x (anchor-at f s t (Moving p v)))
 unfolding then-remove anchor-at altered
 collapse-at f at events bound x s t k a p v =
     let g : List Edge = set-start f s p t in
     let z : Same (links f) (links g) = start-same f (k .kept .size) s p t in
-    let u : Out (links g) (links (remove g x)) x = out-of g events bound x (starts f events bound s p t (k .kept)) (z .lives x ∙ a) in (
-      refl,
-      record {
-        held = Steps.collapse 128 (links f) (links (remove g x)) events bound x (k .kept .held) (k .clean) a (out-after (links f) (links g) (links (remove g x)) x z u);
-        size = remove-length g x (start-length f s p t (k .kept .size));
-      },
-    )
+    let u : Out (links f) (links (remove g x)) x =
+    out-after (links f) (links g) (links (remove g x)) x z (out-of g events bound x (starts f events bound s p t (k .kept)) (z .lives x ∙ a)) in
+    (refl, record { held = Steps.collapse 128 (links f) (links (remove g x)) events bound x (k .kept .held) (k .clean) a u; size = remove-length g x (start-length f s p t (k .kept .size)) }, u)
 
 pub collapse-law : (f : List Edge) (at : Float) (events bound x : ℕ) (t : Float) → Tidied f at events bound → Moves f → links f .live x ≡ 1
-    → ((collapse f x t) .stalled ≡ false) × Kept ((collapse f x t) .edges) (suc events) bound
+    → Collapsed f events bound x (collapse f x t)
 unfolding collapse anchor
 collapse-law f at events bound x t k moves a =
     let n : ℕ = (edge f x) .next in
     let m : (p : PlanarPoint) × (v : PlanarPoint) × (vertex f n t ≡ Moving p v) = moves n (live-next (links f) (k .kept .held .rs) (k .kept .held .rings) x a) t in
-    subst (λ (v : Vertex). ((then-remove x (anchor-at f n t v)) .stalled ≡ false) × Kept ((then-remove x (anchor-at f n t v)) .edges) (suc events) bound) (sym (m .2))
-    (collapse-at f at events bound x n t k a (m .0) (m .1))
+    subst (λ (v : Vertex). Collapsed f events bound x (then-remove x (anchor-at f n t v))) (sym (m .2)) (collapse-at f at events bound x n t k a (m .0) (m .1))
 
 -- ---- a split
 
@@ -77,34 +78,38 @@ Parts events bound false g = Kept g events (bound + 3)
 live-apart : (f : List Edge) (x s : ℕ) → links f .live x ≡ 1 → links f .live s ≡ 0 → x ≢ s
 live-apart f x s a z q = omega (arith, ap (links f .live) q)
 
-pub split-law : (f : List Edge) (at : Float) (events bound v e s : ℕ) (p : PlanarPoint) (t : Float) → Tidied f at events bound → Hits f v e → s < 128 → links f .live s ≡ 0
-    → Parts events bound (one-ring f v e) (split-linked f v e s ((edge f v) .previous) (edge f e) p t)
-split-law f at events bound v e s p t k w h z =
-    subst (λ (b : Bool). Parts events bound b g) (sym (one-ring-same f events bound v e (k .kept) (w .vertex) (w .other)))
-    (sized (Links.one-ring 128 (links f) v e)
-    (Steps.split 128 (links f) (links g) events bound v e s (k .kept .held)
-    (record { vertex = w .vertex; edge = w .hit; apart = w .other; off = w .off; free = z; slot = h })
-    met))
-  where
-    g : List Edge
-    g = split-linked f v e s ((edge f v) .previous) (edge f e) p t
+module _ (f : List Edge) (at : Float) (events bound v e s : ℕ) (p : PlanarPoint) (t : Float) (k : Tidied f at events bound) (w : Hits f v e) (h : s < 128) (z : links f .live s ≡ 0) where
+  abbrev g : List Edge
+  g = split-linked f v e s ((edge f v) .previous) (edge f e) p t
 
-    R : RingsOf (links f) (k .kept .held .rs)
-    R = k .kept .held .rings
+  -- what a split does to the links
+  pub split-links : Met (links f) (links g) v e s
+  split-links = split-met f v e s p t (k .kept .size) h
+      (live-in f ((edge f v) .previous) before) (live-in f ((edge f e) .next) after) (live-in f e (w .hit)) (live-in f v (w .vertex))
+      (live-apart f ((edge f v) .previous) s before z) (live-apart f ((edge f e) .next) s after z) (live-apart f e s (w .hit) z) (live-apart f v s (w .vertex) z)
+      (λ q. w .off (sym q))
+      (λ q. w .off (sym (prev-next (links f) (k .kept .held .rs) R e (w .hit)) ∙ ap (links f .prev) q))
+    where
+      R : RingsOf (links f) (k .kept .held .rs)
+      R = k .kept .held .rings
 
-    ab : links f .live ((edge f v) .previous) ≡ 1
-    ab = live-prev (links f) (k .kept .held .rs) R v (w .vertex)
+      before : links f .live ((edge f v) .previous) ≡ 1
+      before = live-prev (links f) (k .kept .held .rs) R v (w .vertex)
 
-    an : links f .live ((edge f e) .next) ≡ 1
-    an = live-next (links f) (k .kept .held .rs) R e (w .hit)
+      after : links f .live ((edge f e) .next) ≡ 1
+      after = live-next (links f) (k .kept .held .rs) R e (w .hit)
 
-    met : Met (links f) (links g) v e s
-    met = split-met f v e s p t (k .kept .size) h
-        (live-in f ((edge f v) .previous) ab) (live-in f ((edge f e) .next) an) (live-in f e (w .hit)) (live-in f v (w .vertex))
-        (live-apart f ((edge f v) .previous) s ab z) (live-apart f ((edge f e) .next) s an z) (live-apart f e s (w .hit) z) (live-apart f v s (w .vertex) z)
-        (λ q. w .off (sym q))
-        (λ q. w .off (sym (prev-next (links f) (k .kept .held .rs) R e (w .hit)) ∙ ap (links f .prev) q))
+  pub split-law : Parts events bound (one-ring f v e) g
+  split-law =
+      subst (λ (b : Bool). Parts events bound b g) (sym (one-ring-same f events bound v e (k .kept) (w .vertex) (w .other)))
+      (sized (Links.one-ring 128 (links f) v e)
+      (Steps.split 128 (links f) (links g) events bound v e s (k .kept .held)
+      (record { vertex = w .vertex; edge = w .hit; apart = w .other; off = w .off; free = z; slot = h })
+      split-links))
+    where
+      size : length g ≡ 128
+      size = split-length f v e s ((edge f v) .previous) (edge f e) p t (k .kept .size)
 
-    sized : (b : Bool) → Parted 128 (links g) events bound b → Parts events bound b g
-    sized true i = record { held = i; size = split-length f v e s ((edge f v) .previous) (edge f e) p t (k .kept .size) }
-    sized false i = record { held = i; size = split-length f v e s ((edge f v) .previous) (edge f e) p t (k .kept .size) }
+      sized : (b : Bool) → Parted 128 (links g) events bound b → Parts events bound b g
+      sized true i = record { held = i; size = size }
+      sized false i = record { held = i; size = size }

@@ -18,14 +18,14 @@ use Rattle.front.specs.declared.Reach.{Reach}
 use Rattle.loops.specs.Loop.{rounds}
 use Rattle.front.specs.Edges.{edge, set-start, remove, round-on, round-step, ring-len}
 use Rattle.front.specs.Splitting.{reach-on, reach-step, one-ring}
-use Rattle.front.specs.Demand.{Links, links, along}
+use Rattle.front.specs.Links.{Links, links, along, Out}
 use Rattle.front.proofs.Demand.Links
 use Rattle.loops.proofs.Laws.{stays-to, rounds-keep}
 use Rattle.front.proofs.Demand.Occ.{same-eq, same-ne, same-self, same-pos, by-cases, occ, occ-nil, occ-cons}
 use Rattle.front.proofs.Demand.Chain.{Chain}
 use Rattle.front.proofs.Demand.Rings.{Ring, ring, edges}
 use Rattle.front.proofs.Demand.Walk.{along-end, along-in, meets-in, meets-out}
-use Rattle.front.proofs.Demand.Links.{Out, RingsOf, Held, From, from, alone, short, ring-len-is, live-next, live-prev, Same, same-rings}
+use Rattle.front.proofs.Demand.Links.{RingsOf, Held, From, from, alone, short, ring-len-is, live-next, live-prev, Same, same-rings}
 use Rattle.front.proofs.Demand.Steps.{Fewer, take-out}
 use Rattle.front.proofs.Demand.Views.{live-in, remove-length, remove-out, start-same, start-length}
 

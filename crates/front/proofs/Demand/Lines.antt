@@ -1,4 +1,4 @@
--- Lines are only ever copied: what holds of the line of every live edge of a front of 128 edges holds after each step.
+-- Lines are only ever copied, and only a split begins a life: what holds of each live slot of a front of 128 edges and its line holds after each step.
 use mathlib.Core.Path.{_≡_, sym, _∙_, subst}
 use mathlib.Core.Bool.{true, false, not, _&&_, false≢true}
 use mathlib.Core.List.{List}
@@ -25,26 +25,26 @@ use Rattle.front.proofs.EdgeLaws.{edge-out}
 use Rattle.front.proofs.Demand.Views.{edge-here, edge-there, set-length}
 use Rattle.loops.proofs.Laws.{rounds-keep}
 
-module _ (P : Line → Type 0) where
-  -- an edge is dead, or has such a line
-  abbrev pub Fair : Edge → Type 0
-  Fair e = e .alive ≡ true → P (e .line)
+module _ (P : ℕ → Line → Type 0) where
+  -- the edge of a slot is dead, or has such a line
+  abbrev pub Fair : ℕ → Edge → Type 0
+  Fair i e = e .alive ≡ true → P i (e .line)
 
   pub record Lined (f : List Edge) : Type 0 where
-    pub lines : (i : ℕ) → Fair (edge f i)
+    pub lines : (i : ℕ) → Fair i (edge f i)
     pub size : length f ≡ 128
 
-  pub put : (f : List Edge) (s : ℕ) (e : Edge) → Fair e → Lined f → Lined (set f s e)
+  pub put : (f : List Edge) (s : ℕ) (e : Edge) → Fair s e → Lined f → Lined (set f s e)
   put f s e p l = record {
     lines = λ i. by-cases i s
-        (λ q. subst (λ (k : ℕ). Fair (edge (set f s e) k)) (sym q) (inside (decLt s 128)))
-        (λ d. subst Fair (sym (edge-there f s i e d)) (l .lines i));
+        (λ q. subst (λ (k : ℕ). Fair k (edge (set f s e) k)) (sym q) (inside (decLt s 128)))
+        (λ d. subst (Fair i) (sym (edge-there f s i e d)) (l .lines i));
     size = set-length f s e (l .size);
   }
     where
-      inside : Dec (s < 128) → Fair (edge (set f s e) s)
-      inside (yes h) = subst Fair (sym (edge-here f s e (l .size) h)) p
-      inside (no h) = subst Fair (edge-out f s (omega arith) ∙ sym (edge-out (set f s e) s (omega arith))) (l .lines s)
+      inside : Dec (s < 128) → Fair s (edge (set f s e) s)
+      inside (yes h) = subst (Fair s) (sym (edge-here f s e (l .size) h)) p
+      inside (no h) = subst (Fair s) (edge-out f s (omega arith) ∙ sym (edge-out (set f s e) s (omega arith))) (l .lines s)
 
   next-lined : (f : List Edge) (s v : ℕ) → Lined f → Lined (set-next f s v)
   unfolding set-next with-next
@@ -128,7 +128,7 @@ module _ (P : Line → Type 0) where
 
   -- ---- a split
 
-  pub split-lined : (f : List Edge) (v e s : ℕ) (p : PlanarPoint) (t : Float) → (edge f e) .alive ≡ true → Lined f
+  pub split-lined : (f : List Edge) (v e s : ℕ) (p : PlanarPoint) (t : Float) → P s ((edge f e) .line) → Lined f
       → Lined (split-linked f v e s ((edge f v) .previous) (edge f e) p t)
   unfolding split-linked cut copy-of
-  split-lined f v e s p t a l = start-lined _ _ _ _ (previous-lined _ _ _ (next-lined _ _ _ (previous-lined _ _ _ (next-lined _ _ _ (put _ _ _ (λ q. l .lines e a) l)))))
+  split-lined f v e s p t a l = start-lined _ _ _ _ (previous-lined _ _ _ (next-lined _ _ _ (previous-lined _ _ _ (next-lined _ _ _ (put _ _ _ (λ q. a) l)))))

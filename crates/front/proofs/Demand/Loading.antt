@@ -24,7 +24,7 @@ use Rattle.loops.specs.Loop.{rounds}
 use Rattle.front.specs.Edges.{unused, blank, edge}
 use Rattle.front.specs.Lines.{through}
 use Rattle.front.specs.Loading.{no-front, loaded-nothing, load-refused, load-vertex, loaded-edge, load-line, load-edge, load-step, ring-begun, load-ring}
-use Rattle.front.specs.Demand.{bit, links}
+use Rattle.front.specs.Links.{bit, links}
 use Rattle.front.proofs.Demand.Choice.{by-test}
 use Rattle.front.proofs.Demand.Occ.{by-cases}
 use Rattle.front.proofs.Demand.Rings.{Ring, spare, occs-nil}
@@ -79,12 +79,13 @@ module _ (P : Line → Type 0) where
   pub record Rings-in (n r : ℕ) (s : Loaded) : Type 0 where
     pub rs : List Ring
     pub rings : RingsOf (links (s .edges)) rs
+    pub live : (x : ℕ) → x < n → links (s .edges) .live x ≡ 1
     pub rest : (x : ℕ) → n ≤ x → links (s .edges) .live x ≡ 0
     pub used : s .used ≡ n
     pub count : s .rings ≡ r
     pub fits : n ≤ 128
     pub spares : spare rs + 2 * r ≡ n
-    pub lined : Lined P (s .edges)
+    pub lined : Lined (λ i. P) (s .edges)
 
   abbrev pub Load-is : ℕ → ℕ → Loaded → Type 0
   Load-is n r s = granted (s .refusal) ≡ true → Rings-in n r s
@@ -100,7 +101,7 @@ module _ (P : Line → Type 0) where
       used : s .used ≡ first + i
       count : s .rings ≡ s₀ .rings + 1
       fits : first + i ≤ 128
-      lined : Lined P (s .edges)
+      lined : Lined (λ i. P) (s .edges)
       old : (x : ℕ) → x < first → edge (s .edges) x ≡ edge (s₀ .edges) x
       new : (x : ℕ) → first ≤ x → x < first + i → Slot (s .edges) first c x
       rest : (x : ℕ) → first + i ≤ x → links (s .edges) .live x ≡ 0
@@ -133,7 +134,7 @@ module _ (P : Line → Type 0) where
               used = omega (arith, w .used);
               count = w .count;
               fits = omega (arith, w .used, ltb-true (s .used) 128 q);
-              lined = put P (s .edges) (s .used) e (λ z. good (omega arith) l refl) (w .lined);
+              lined = put (λ i. P) (s .edges) (s .used) e (λ z. good (omega arith) l refl) (w .lined);
               old = λ x i. there x (λ n. omega arith) ∙ w .old x i;
               new = λ x i j. by-cases x (first + k)
                   (λ n. subst (λ (y : ℕ). Slot f first c y) (sym n) (slot-of f first c k l a (omega arith) here))
@@ -178,6 +179,7 @@ module _ (P : Line → Type 0) where
                       (λ x i. (ap (λ (e : Edge). e .next) (w .old x i), ap (λ (e : Edge). e .previous) (w .old x i), ap (λ (e : Edge). bit (e .alive)) (w .old x i)))
                       (ring-at (s .edges) first c (omega arith) (w .new))
                       (w .rest);
+                  live = λ x i. all x (omega arith) (decLt x first);
                   rest = λ x i. w .rest x (omega arith);
                   used = omega (arith, w .used);
                   count = omega (arith, w .count, v .count);
@@ -185,6 +187,10 @@ module _ (P : Line → Type 0) where
                   spares = omega (arith, last-spare first c (v .rs) three, v .spares);
                   lined = w .lined;
                 }
+              where
+                all : (x : ℕ) → x < first + c → Dec (x < first) → links (s .edges) .live x ≡ 1
+                all x i (yes j) = ap (λ (e : Edge). bit (e .alive)) (w .old x j) ∙ v .live x (omega (arith, v .used))
+                all x i (no j) = w .new x (omega arith) i .live
 
   -- the empty front
   nothing-edge : (i : ℕ) → edge no-front i ≡ unused
@@ -200,6 +206,7 @@ module _ (P : Line → Type 0) where
   load-none g = record {
     rs = [];
     rings = record { linked = tt; once = λ s. occs-nil s ∙ sym (dead s); bit = λ s. omega (arith, dead s) };
+    live = λ x i. absurd (omega arith);
     rest = λ x i. dead x;
     used = refl;
     count = refl;

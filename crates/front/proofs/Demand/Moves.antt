@@ -20,7 +20,7 @@ use Rattle.front.specs.Thresholds.{opposite}
 use Rattle.front.specs.Lines.{direction, normal, velocity-by, velocity}
 use Rattle.front.specs.Edges.{edge, moved-by, vertex-by, vertex-of, vertex}
 use Rattle.front.specs.Tidying.{opposed}
-use Rattle.front.specs.Demand.{links}
+use Rattle.front.specs.Links.{links}
 use Rattle.front.specs.Velocity.{Turned-left, SameBits, Moves}
 use Rattle.front.proofs.Demand.Links.{live-prev, next-prev}
 use Rattle.front.proofs.Demand.Tidying.{Tidied, tidied-apart}
@@ -105,7 +105,7 @@ has-velocity a b p q h =
           (ap (λ (x : Float). lt (add one x) opposite) (same-bits a b p q) ∙ h),
     )
 
-pub moves : (P : Line → Type 0) → ((l : Line) → P l → Turned-left l) → (f : List Edge) (t : Float) (events bound : ℕ) → Tidied f t events bound → Lined P f → Moves f
+pub moves : (P : Line → Type 0) → ((l : Line) → P l → Turned-left l) → (f : List Edge) (t : Float) (events bound : ℕ) → Tidied f t events bound → Lined (λ i. P) f → Moves f
 unfolding vertex vertex-of vertex-by
 moves P left f t events bound T l x a now =
     let p : ℕ = (edge f x) .previous in

@@ -23,7 +23,7 @@ use Rattle.front.specs.Thresholds.{opposite}
 use Rattle.plane.specs.Plane.{sub, dot}
 use Rattle.front.specs.Edges.{edge, vertex-by, vertex-of, vertex, length-to, length-from, edge-length}
 use Rattle.front.specs.Lines.{direction, normal, velocity-by, velocity}
-use Rattle.front.specs.Demand.{links}
+use Rattle.front.specs.Links.{links}
 use Rattle.front.specs.Velocity.{Turned-left}
 use Rattle.front.proofs.Demand.Rings.{Ring}
 use Rattle.front.proofs.Demand.Links.{RingsOf, live-next, live-prev}
@@ -105,7 +105,7 @@ unfolding vertex-by
 by-small e t Nowhere h = tt
 by-small e t (There v) h = h
 
-module _ (f : List Edge) (l : Lined Bounded f) (rs : List Ring) (R : RingsOf (links f) rs) (t : Float) where
+module _ (f : List Edge) (l : Lined (λ i. Bounded) f) (rs : List Ring) (R : RingsOf (links f) rs) (t : Float) where
   bounded : (x : ℕ) → links f .live x ≡ 1 → Bounded ((edge f x) .line)
   bounded x a = l .lines x (alive-of ((edge f x) .alive) a)
 

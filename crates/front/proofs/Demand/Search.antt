@@ -27,7 +27,7 @@ use Rattle.plane.specs.Plane.{dot, cross}
 use Rattle.front.specs.Edges.{edge, vertex, moved-by, length-to, length-from, edge-length}
 use Rattle.front.specs.Lines.{direction, normal}
 use Rattle.front.specs.NextEvent.{look-split, look-collapse, sooner, late, hit-within, hit-to, hit-from, hit-then, hit-after, hit-closing, hit-at, candidate, hit-step, hits, look-turn, shrinking, look-length, look-vertex, look-at, look-step, look, choose, event-of, next-event}
-use Rattle.front.specs.Demand.{bit, links}
+use Rattle.front.specs.Links.{bit, links}
 use Rattle.front.specs.Velocity.{Moves}
 use Rattle.loops.proofs.Laws.{rounds-keep}
 use Rattle.front.proofs.Demand.Choice.{by-test, and-left, and-right}

@@ -21,7 +21,7 @@ use Rattle.loops.specs.Loop.{rounds}
 use Rattle.front.specs.Edges.{edge, set-start, kill, remove, ring-len, vertex, altered, stalled, anchor-at, anchor, then-remove, collapse, edge-length}
 use Rattle.front.specs.Lines.{direction, meeting}
 use Rattle.front.specs.Tidying.{empty, tidy-length, opposed, same-way, tidy-turn, few, tidy-edge, tidy-at, unless-found, find-step, find-tidy, Drop, drop-on, drop-step, drop-ring, drop-straight, meeting-or, drop-both, spike-to, spike-from, drop-spike, tidy-by, tidy-once, tidy-step, tidy}
-use Rattle.front.specs.Demand.{Links, bit, links}
+use Rattle.front.specs.Links.{Links, bit, links}
 use Rattle.front.proofs.Demand.Links
 use Rattle.front.proofs.Demand.Steps
 use Rattle.loops.proofs.Laws.{stays-to, rounds-keep}

@@ -15,11 +15,11 @@ use Rattle.error.specs.Refusals.{number}
 use Rattle.loops.specs.Loop.{rounds}
 use Rattle.front.specs.Sweeps.{sweep-tidied, sweep-step}
 use Rattle.front.specs.Tidying.{find-tidy, tidy}
-use Rattle.front.specs.Demand.{links, InRing, going, Turn, turn, turns, tidied, Looks, Leads, Each, found, kind, completed, events}
-use Rattle.front.specs.Velocity.{Moves}
+use Rattle.front.specs.Links.{links}
+use Rattle.front.specs.Demand.{going, Turn, turn, turns, tidied, Looks, Leads, Each, found, Works, completed, events}
 use Rattle.loops.proofs.Laws.{steady, still, rounds-keep}
 use Rattle.front.proofs.Demand.Tallies.{Adds, adds-none, adds-then, Bound, bound-none, bound-then, by-any-point, completed-one}
-use Rattle.front.proofs.Demand.Sweeps.{State, Turned, turned, turn-settled, turn-rings, turn-moves, turn-seeks, turn-never}
+use Rattle.front.proofs.Demand.Sweeps.{Stands, State, Turned, turned, turn-settled, turn-stands, turn-seeks, turn-lives, turn-never}
 
 pub each : (P Q : Turn → Type 0) → ((t : Turn) → P t → Q t) → (ts : List Turn) → Each P ts → Each Q ts
 each P Q f [] h = tt
@@ -47,11 +47,12 @@ rounds-done d s m w = still (sweep-step d) s (step-done d s w) m
 
 module _ (d : Float) (near : finite d ≡ true) (b : ℕ) where
   pub record TurnIs (t : Turn) : Type 0 where
-    pub rings : Looks t → (x : ℕ) → links ((tidied t) .edges) .live x ≡ 1 → InRing (links ((tidied t) .edges)) x
+    pub works : going (t .to) ≡ true → Works ((tidied t) .edges) (found t) (t .to .edges)
+    pub lives : (x : ℕ) → links ((tidied t) .edges) .live x ≡ 1 → links (t .from .edges) .live x ≡ 1
+    pub stands : Looks t → Stands ((tidied t) .edges)
     pub never : le d (add (t .from .travelled) infinity) ≡ true
     pub before : going (t .to) ≡ true → lt (t .to .travelled) d ≡ true
     pub settled : Looks t → ((tidied t) .changed ≡ false) × (find-tidy ((tidied t) .edges) (t .from .travelled) ≡ Settled)
-    pub moves : Looks t → Moves ((tidied t) .edges)
     pub seeks : Looks t → found t ≢ Stalled
     pub refused : number (t .to .refusal) ≡ 17 → (tidied t) .stalled ≡ true
 
@@ -81,7 +82,7 @@ module _ (d : Float) (near : finite d ≡ true) (b : ℕ) where
     abbrev t : Turn
     t = turn d s
 
-    now : Turned d near b i s (t .to) (kind ((tidied t) .edges) (found t)) ((tidied t) .stalled)
+    now : Turned d near b i s (t .to) ((tidied t) .edges) (found t) ((tidied t) .stalled)
     now = turned d near b i s h w
 
     now-adds : Adds s (t .to) (completed t)
@@ -90,11 +91,12 @@ module _ (d : Float) (near : finite d ≡ true) (b : ℕ) where
 
     is : TurnIs t
     is = record {
-      rings = turn-rings d near b i s h w;
+      works = now .works;
+      lives = turn-lives d near b i s h w;
+      stands = turn-stands d near b i s h w;
       never = turn-never d near b i s h w;
       before = now .before;
       settled = turn-settled d near b i s h w;
-      moves = turn-moves d near b i s h w;
       seeks = turn-seeks d near b i s h w;
       refused = now .refused;
     }
@@ -131,6 +133,7 @@ module _ (d : Float) (near : finite d ≡ true) (b : ℕ) where
         most = omega (arith, h .most);
         all = λ e. absurd (false≢true (sym w ∙ e));
         on = λ e. absurd (false≢true (sym w ∙ e));
+        stops = h .stops;
         other = h .other;
       }
 

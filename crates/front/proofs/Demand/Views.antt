@@ -14,11 +14,10 @@ use Rattle.plane.specs.declared.PlanarPoint.{PlanarPoint}
 use Rattle.front.specs.declared.Edge.{Edge}
 use Rattle.front.specs.Edges.{unused, blank, edge, with-next, with-previous, with-start, dead, set-next, set-previous, set-start, kill, unlinked, remove}
 use Rattle.front.specs.Splitting.{copy-of, cut, split-linked}
-use Rattle.front.specs.Demand.{bit, links}
+use Rattle.front.specs.Links.{bit, links, Out, Met, Stored}
 use Rattle.front.proofs.EdgeLaws.{edge-in, edge-out}
 use Rattle.front.proofs.Demand.Occ.{by-cases}
-use Rattle.front.proofs.Demand.Remove.{Stored}
-use Rattle.front.proofs.Demand.Links.{Out, Met, Same}
+use Rattle.front.proofs.Demand.Links.{Same}
 use Rattle.front.proofs.Demand.Sets.{SetNext, SetPrev, SetDead, Put, out-by-sets, met-by-sets}
 
 -- ---- an edge of the front

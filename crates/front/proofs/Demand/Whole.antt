@@ -88,7 +88,7 @@ front-velocity d origin n r l near w =
 pub load-granted : LoadGranted
 load-granted d origin n r l w g =
     let h : Rings-in Bounded n r l = well d origin n r l w .loads g in
-    (h .used, h .count, h .fits)
+    record { used = h .used; rings = h .count; fits = h .fits; live = h .live; rest = h .rest }
 
 pub load-refused : LoadRefused
 load-refused d origin n r l w = well d origin n r l w .refusal
