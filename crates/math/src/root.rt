@@ -119,7 +119,7 @@ fn last_digits(x: f64) -> u64
 }
 
 // A number near the root of hi, as a rule the whole part of it for a hi from 2^52 up to 2^55.
-// Nothing is promised of it: the caller tries it.
+// Only its size is promised: the caller tries it.
 fn guess(hi: u64) -> u64
     requires { ⌜ hi < 2 ^ 56 ⌝ }
     ensures { λ r. ⌜ r < 2 ^ 28 ⌝ }
