@@ -42,11 +42,15 @@ unfoldable pub loaded-edge : Line → ℕ → ℕ → ℕ → PlanarPoint → Ed
 loaded-edge l first n k a =
     record { line = l; previous = first + cond (eqb k 0) (n - 1) (k - 1); next = first + following n k; alive = true; start = a; since = zero-float }
 
+-- is there a slot for one edge more?
+unfoldable pub has-room : Loaded → Bool
+has-room s = ltb (s .used) 128
+
 -- edge by edge, a zero length (16) is asked before the room for that edge (15), which names 128 plus the edges of that ring still to load
 unfoldable pub load-line : Float → ℕ → ℕ → ℕ → PlanarPoint → Loaded → Through → Loaded
 load-line d first n k a s NoLine = load-refused s (Collapses d)
 load-line d first n k a s (Along l) =
-    cond (ltb (s .used) 128)
+    cond (has-room s)
     (record { edges = set (s .edges) (s .used) (loaded-edge l first n k a); used = s .used + 1; rings = s .rings; refusal = Granted })
     (load-refused s (Slots (s .used + (n - k))))
 
@@ -77,5 +81,5 @@ pub data Loads (d : Float) : PlanarPoint → ℕ → ℕ → Loaded → Type 0 w
 
 -- opens every definition above, for a proof that computes with all of them
 unfoldable pub open-loading : Unit {0}
-unfolding no-front loaded-nothing load-refused load-vertex loaded-edge load-line load-edge load-step ring-begun load-ring
+unfolding no-front loaded-nothing load-refused load-vertex loaded-edge has-room load-line load-edge load-step ring-begun load-ring
 open-loading = tt

@@ -6,7 +6,6 @@ use mathlib.Core.List.{List, [], _∷_}
 use Prim.Native.Nat.{ℕ, suc, _+_, _*_, _≤_, _<_}
 use native.Mathlib.Omega.{arith}
 use native.Mathlib.Decide.{decLt}
-use lib.Dec.{ltb}
 use lib.Ieee.{Float}
 use borrow.Author.Tests.{ltb-true, eq-eqb, ne-eqb, lt-ltb, le-ltb}
 use lib.ListN.{set, replicate, length-replicate, getD-replicate}
@@ -23,7 +22,7 @@ use Rattle.ring.specs.Ring.{following}
 use Rattle.loops.specs.Loop.{rounds}
 use Rattle.front.specs.Edges.{unused, blank, edge}
 use Rattle.front.specs.Lines.{through}
-use Rattle.front.specs.Loading.{no-front, loaded-nothing, load-refused, load-vertex, loaded-edge, load-line, load-edge, load-step, ring-begun, load-ring}
+use Rattle.front.specs.Loading.{no-front, loaded-nothing, load-refused, load-vertex, loaded-edge, has-room, load-line, load-edge, load-step, ring-begun, load-ring}
 use Rattle.front.specs.Links.{bit, links}
 use Rattle.front.proofs.Demand.Choice.{by-test}
 use Rattle.front.proofs.Demand.Occ.{by-cases}
@@ -38,6 +37,10 @@ use Rattle.front.proofs.Demand.Lines.{Lined, put}
 spare-none : spare [] + 2 * 0 ≡ 0
 unfolding spare
 spare-none = omega arith
+
+room-below : (s : Loaded) → has-room s ≡ true → s .used < 128
+unfolding has-room
+room-below s q = omega (arith, ltb-true (s .used) _ q)
 
 -- the slot s is the edge of a ring of c edges from `first` on
 record Slot (f : List Edge) (first c s : ℕ) : Type 0 where
@@ -116,7 +119,7 @@ module _ (P : Line → Type 0) where
     line-part : (k : ℕ) (s : Loaded) (a : PlanarPoint) (x : Through) → (k < c → (l : Line) → x ≡ Along l → P l) → Part-is k s → granted (s .refusal) ≡ true → Part-is (suc k) (load-line d first c k a s x)
     unfolding load-line granted number values loaded-edge
     line-part k s a NoLine good p g = refused-part (suc k) s (Collapses d) refl
-    line-part k s a (Along l) good p g = by-test (Part-is (suc k)) (ltb (s .used) 128) stored (λ q. refused-part (suc k) s _ refl)
+    line-part k s a (Along l) good p g = by-test (Part-is (suc k)) (has-room s) stored (λ q. refused-part (suc k) s _ refl)
       where
         e : Edge
         e = loaded-edge l first c k a
@@ -124,16 +127,16 @@ module _ (P : Line → Type 0) where
         f : List Edge
         f = set (s .edges) (s .used) e
 
-        stored : ltb (s .used) 128 ≡ true → Part-is (suc k) (record { edges = f; used = s .used + 1; rings = s .rings; refusal = Granted })
+        stored : has-room s ≡ true → Part-is (suc k) (record { edges = f; used = s .used + 1; rings = s .rings; refusal = Granted })
         stored q h z =
             let w : Part k s = p (omega arith) g in
-            let here : edge f (first + k) ≡ e = subst (λ (i : ℕ). edge f i ≡ e) (w .used) (edge-here (s .edges) (s .used) e (w .lined .size) (ltb-true (s .used) 128 q)) in
+            let here : edge f (first + k) ≡ e = subst (λ (i : ℕ). edge f i ≡ e) (w .used) (edge-here (s .edges) (s .used) e (w .lined .size) (room-below s q)) in
             let there : (x : ℕ) → x ≢ first + k → edge f x ≡ edge (s .edges) x = λ x n. edge-there (s .edges) (s .used) x e (λ i. n (i ∙ w .used)) in
             record {
               before = w .before;
               used = omega (arith, w .used);
               count = w .count;
-              fits = omega (arith, w .used, ltb-true (s .used) 128 q);
+              fits = omega (arith, w .used, room-below s q);
               lined = put (λ i. P) (s .edges) (s .used) e (λ z. good (omega arith) l refl) (w .lined);
               old = λ x i. there x (λ n. omega arith) ∙ w .old x i;
               new = λ x i j. by-cases x (first + k)
@@ -226,7 +229,7 @@ Load-refusal r = granted r ≡ false → (number r ≡ 15) ⊎ (number r ≡ 16)
 line-refusal : (d : Float) (first c k : ℕ) (a : PlanarPoint) (s : Loaded) (x : Through) → Load-refusal ((load-line d first c k a s x) .refusal)
 unfolding load-line load-refused granted number values
 line-refusal d first c k a s NoLine = λ q. inr refl
-line-refusal d first c k a s (Along l) = by-test (λ (x : Loaded). Load-refusal (x .refusal)) (ltb (s .used) 128) (λ b q. absurd (true≢false q)) (λ b q. inl refl)
+line-refusal d first c k a s (Along l) = by-test (λ (x : Loaded). Load-refusal (x .refusal)) (has-room s) (λ b q. absurd (true≢false q)) (λ b q. inl refl)
 
 step-refusal : (ps : List Float) (c : ℕ) (back : Bool) (origin : PlanarPoint) (d : Float) (first k : ℕ) (s : Loaded) → Load-refusal (s .refusal)
     → Load-refusal ((load-step ps c back origin d first k s) .refusal)
