@@ -21,7 +21,8 @@ use Rattle.loops.proofs.Laws.{rounds-keep}
 use Rattle.ring.specs.Ring.{vertex-at, source, stored-at}
 use Rattle.ringcheck.specs.Checks.{check-ring}
 use Rattle.polygon.specs.Outlines.{proper, stored-outline, check-finite}
-use Rattle.front.proofs.Demand.Shapes.{proper-is, and-left, and-right}
+use Rattle.front.proofs.Demand.Shapes.{proper-is}
+use Rattle.front.proofs.Demand.Choice.{and-left, and-right}
 use Rattle.offset.proofs.Choices.{either, both, all-pass, sums-to}
 use Rattle.offset.proofs.Passes.{Passed, check-sound}
 use Rattle.offset.proofs.Good.{Finite, good-ring, good-proper, proper-same}
