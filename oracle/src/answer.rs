@@ -63,10 +63,24 @@ impl Refusal {
     }
 }
 
+/// What answers the inset of one ring.
+#[derive(Debug, Clone, Copy, PartialEq, Eq)]
+pub enum Single {
+    /// `Polygon`, as a job has it.
+    Outline,
+    /// `Region` without holes.
+    Region,
+}
+
 /// The answer to a line without its LF.
 pub fn answer_line(line: &[u8]) -> Answer {
+    answer_line_by(line, Single::Outline)
+}
+
+/// The same, the inset of one ring answered as said.
+pub fn answer_line_by(line: &[u8], single: Single) -> Answer {
     match Job::read(line) {
-        Some(job) => answer(&job),
+        Some(job) => answer_by(&job, single),
         None => Answer {
             result: Err(Refusal::of(22, &[], &[])),
             events: Events::default(),
@@ -77,8 +91,12 @@ pub fn answer_line(line: &[u8]) -> Answer {
 
 /// The answer to a job.
 pub fn answer(job: &Job) -> Answer {
+    answer_by(job, Single::Outline)
+}
+
+fn answer_by(job: &Job, single: Single) -> Answer {
     events::clear();
-    let result = run(job);
+    let result = run(job, single);
     Answer {
         result,
         events: events::events(),
@@ -86,10 +104,10 @@ pub fn answer(job: &Job) -> Answer {
     }
 }
 
-fn run(job: &Job) -> Result<Vec<Vec<PlanarPoint>>, Refusal> {
+fn run(job: &Job, single: Single) -> Result<Vec<Vec<PlanarPoint>>, Refusal> {
     let rings = rings(job)?;
     let outer = Outer::new(&rings[0]).map_err(|error| of_ring(error).in_ring(0))?;
-    if rings.len() == 1 {
+    if rings.len() == 1 && (job.outset || single == Single::Outline) {
         let distance = checked_distance(job.distance)?;
         let result = if job.outset {
             outer.outset(distance)

@@ -77,9 +77,9 @@ pub fn exact(x: f64, y: f64) -> f64 {
     // In units of 2^(e − SPARE): the square below 2^125, what is cut off below
     // one. A number whose square it is has the same whole part with and
     // without what is cut off.
-    let tail = u128::from(n) * u128::from(n) << (2 * SPARE);
+    let tail = (u128::from(n) * u128::from(n)) << (2 * SPARE);
     let cut = tail & ((1 << (2 * gap)) - 1);
-    let square = (u128::from(m) * u128::from(m) << (2 * SPARE)) + (tail >> (2 * gap));
+    let square = ((u128::from(m) * u128::from(m)) << (2 * SPARE)) + (tail >> (2 * gap));
     let root = whole_root(square);
     let inexact = cut != 0 || u128::from(root) * u128::from(root) != square;
     // Drop SPARE bits, or one more where the root needs 54 bits.

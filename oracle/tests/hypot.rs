@@ -231,7 +231,7 @@ fn near_ties() {
         if y > m {
             continue;
         }
-        let shift = f64::from_bits(((1 + draw.bits() % 1900) << 52) & !0);
+        let shift = f64::from_bits((1 + draw.bits() % 1900) << 52);
         let y = beside(y, draw.whole(-2, 2));
         check(m, y);
         if (m * shift).is_finite() && y * shift >= f64::MIN_POSITIVE {
@@ -240,17 +240,19 @@ fn near_ties() {
     }
 }
 
-/// Right triangles in whole numbers whose longest side needs 54 bits.
+/// Right triangles in whole numbers whose longest side needs 54 bits: ties,
+/// half of them to be rounded up.
 #[test]
 fn exact_ties() {
     let mut draw = Draw::new(15);
-    let mut met = 0;
-    for _ in 0..rounds(400_000) {
+    let mut met = [0, 0];
+    for _ in 0..rounds(800_000) {
         let p = draw.bits() % (1 << 27);
         let q = draw.bits() % (1 << 27);
+        let times = [1, 3, 5, 7][draw.below(4)];
         let (p, q) = (p.max(q), p.min(q));
-        let long = p * p + q * q;
-        let legs = (p * p - q * q, 2 * p * q);
+        let long = times * (p * p + q * q);
+        let legs = (times * (p * p - q * q), times * 2 * p * q);
         if long >> 53 != 1 || long % 2 == 0 || q == 0 {
             continue;
         }
@@ -258,8 +260,9 @@ fn exact_ties() {
         if x as u64 != legs.0 || y as u64 != legs.1 {
             continue;
         }
-        met += 1;
-        assert_eq!(exact(x, y) as u64 % 4, 0);
+        let up = long % 4 == 3;
+        met[usize::from(up)] += 1;
+        assert_eq!(exact(x, y) as u64, if up { long + 1 } else { long - 1 });
         for by in -1..=1 {
             check(beside(x, by), y);
             check(x, beside(y, by));
@@ -267,7 +270,28 @@ fn exact_ties() {
         let down = f64::from_bits((1 + draw.bits() % 900) << 52);
         check(x * down, y * down);
     }
-    assert!(met > rounds(20_000));
+    assert!(met.iter().all(|met| *met > rounds(5_000)), "{met:?}");
+}
+
+/// Above a tie by less than a 2^18th of the smaller side's square.
+#[test]
+fn just_above_a_tie() {
+    let mut draw = Draw::new(19);
+    let mut met = 0;
+    for _ in 0..rounds(20_000_000) {
+        // n² = (m + ¼) 2^52 + rest, so that hypot(m 2^26, n) is about m + ½.
+        let n = 1 << 52 | draw.bits() >> 13;
+        let over = u128::from(n) * u128::from(n) - (1 << 50);
+        let (m, rest) = ((over >> 52) as u64, over as u64 % (1 << 52));
+        if m >> 52 != 1 || rest == 0 || rest >= 1 << 34 {
+            continue;
+        }
+        met += 1;
+        let (x, y) = (m as f64 * 67_108_864.0, n as f64);
+        assert_eq!(exact(x, y), (m + 1) as f64 * 67_108_864.0);
+        check(x, y);
+    }
+    assert!(met > 0);
 }
 
 #[test]
@@ -298,11 +322,9 @@ fn about_the_largest() {
     let mut over = 0;
     for _ in 0..rounds(200_000) {
         let x = float(&mut draw, 2044, 2046);
-        let half = (f64::MAX / 2.0).powi(1);
-        // y from x² + y² near the largest square.
-        let (s, r) = (x / 2.0 / half, 1.0);
-        let rest: f64 = r - s * s;
-        let y = rest.max(0.0).sqrt() * half * 2.0;
+        // y such that x² + y² is about the square of the largest.
+        let part = x / f64::MAX;
+        let y = (1.0 - part * part).max(0.0).sqrt() * f64::MAX;
         let y = beside(y.min(f64::MAX), draw.whole(-3, 3));
         check(x, y);
         check(x, float(&mut draw, 2015, 2046));

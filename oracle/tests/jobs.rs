@@ -2,7 +2,7 @@
 
 use std::io::BufReader;
 
-use oracle::answer::{answer_line, Answer, Refusal};
+use oracle::answer::{answer_line, answer_line_by, Answer, Refusal, Single};
 use oracle::draw::Draw;
 use oracle::generate;
 use oracle::job::{Job, LONGEST};
@@ -434,6 +434,20 @@ fn rare_refusals() {
     assert_eq!((refusal(&answer).number, answer.rings), (17, 0));
 }
 
+#[test]
+fn one_ring_as_a_region() {
+    // A ring that rounding turned round is a hole to a region.
+    let ring: Ring = &[[5.5, 3.5], [1.5, 6.5], [2.0, 5.5], [0.5, 3.5]];
+    let text = line(false, 1.0, &[ring]);
+    assert_eq!(number(text.as_bytes()), 17);
+    let answer = answer_line_by(text.as_bytes(), Single::Region);
+    assert_eq!(refusal(&answer).number, 16);
+    // An outset stays an outline's.
+    let text = line(true, 1.0, &[S]);
+    let answer = answer_line_by(text.as_bytes(), Single::Region);
+    assert_eq!(answer.line(), answer_line(text.as_bytes()).line());
+}
+
 fn split(input: &[u8], block: usize) -> Vec<Vec<u8>> {
     let mut reader = BufReader::with_capacity(block, input);
     let (mut line, mut lines) = (Vec::new(), Vec::new());
@@ -511,6 +525,35 @@ fn the_load_reaches_every_number() {
     }
 }
 
+/// 15 while loading and at a split, a piece refused after a ring that
+/// vanished.
+#[test]
+fn the_load_reaches_rare_places() {
+    let (mut loading, mut splitting, mut second) = (0, 0, 0);
+    for index in 0..5000 {
+        let line = generate::line(3, index, false, None).unwrap();
+        let Some(job) = Job::read(&line) else {
+            continue;
+        };
+        let answer = answer_line(&line);
+        match &answer.result {
+            Err(refusal) if refusal.number == 15 => {
+                if job.numbers.len() > 2 * 140 {
+                    loading += 1;
+                } else if job.numbers.len() <= 2 * 128 {
+                    splitting += 1;
+                }
+            }
+            Err(refusal) if answer.rings > 1 && refusal.ring == Some(1) => second += 1,
+            _ => {}
+        }
+    }
+    assert!(
+        loading > 4 && splitting > 4 && second > 4,
+        "{loading} {splitting} {second}"
+    );
+}
+
 #[test]
 fn the_small_load() {
     let tally = tally(7, 5000, true);
@@ -545,6 +588,6 @@ fn the_load_is_fixed() {
             sum = (sum ^ u64::from(*byte)).wrapping_mul(0x100_0000_01b3);
         }
     }
-    assert_eq!(format!("{sum:016x}"), "");
+    assert_eq!(format!("{sum:016x}"), "97a29371a56bdf39");
     assert!(generate::line(1, 0, true, Some("corridor")).is_none());
 }

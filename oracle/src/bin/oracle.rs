@@ -1,16 +1,16 @@
 //! Job lines on standard input, answer lines on standard output.
 //!
-//! `oracle [--hypot exact|std] [--full | --tally]`
+//! `oracle [--hypot exact|std] [--region] [--full | --tally]`
 
 use std::io::{self, BufWriter, Write};
 use std::process::ExitCode;
 
-use oracle::answer::answer_line;
+use oracle::answer::{answer_line_by, Single};
 use oracle::hypot;
 use oracle::lines::next_line;
 use oracle::tally::Tally;
 
-const USAGE: &str = "usage: oracle [--hypot exact|std] [--full | --tally]";
+const USAGE: &str = "usage: oracle [--hypot exact|std] [--region] [--full | --tally]";
 
 enum Mode {
     Plain,
@@ -18,13 +18,14 @@ enum Mode {
     Tally,
 }
 
-fn mode() -> Option<Mode> {
-    let mut mode = Mode::Plain;
+fn choice() -> Option<(Mode, Single)> {
+    let (mut mode, mut single) = (Mode::Plain, Single::Outline);
     let mut words = std::env::args().skip(1);
     while let Some(word) = words.next() {
         match word.as_str() {
             "--full" => mode = Mode::Full,
             "--tally" => mode = Mode::Tally,
+            "--region" => single = Single::Region,
             "--hypot" => hypot::use_library(match words.next()?.as_str() {
                 "exact" => false,
                 "std" => true,
@@ -33,16 +34,16 @@ fn mode() -> Option<Mode> {
             _ => return None,
         }
     }
-    Some(mode)
+    Some((mode, single))
 }
 
-fn run(mode: &Mode) -> io::Result<()> {
+fn run(mode: &Mode, single: Single) -> io::Result<()> {
     let mut input = io::stdin().lock();
     let mut output = BufWriter::with_capacity(1 << 16, io::stdout().lock());
     let mut tally = Tally::default();
     let mut line = Vec::new();
     while next_line(&mut input, &mut line)? {
-        let answer = answer_line(&line);
+        let answer = answer_line_by(&line, single);
         match mode {
             Mode::Plain => writeln!(output, "{}", answer.line())?,
             Mode::Full => writeln!(output, "{}", answer.full_line())?,
@@ -56,11 +57,11 @@ fn run(mode: &Mode) -> io::Result<()> {
 }
 
 fn main() -> ExitCode {
-    let Some(mode) = mode() else {
+    let Some((mode, single)) = choice() else {
         eprintln!("{USAGE}");
         return ExitCode::from(2);
     };
-    match run(&mode) {
+    match run(&mode, single) {
         Ok(()) => ExitCode::SUCCESS,
         Err(error) => {
             eprintln!("oracle: {error}");

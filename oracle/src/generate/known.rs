@@ -140,6 +140,49 @@ fn case(place: usize) -> (f64, Vec<Ring>) {
             1.0,
             vec![square(5.0), vec![[2.0, 3.0], [1.0, 2.0], [1.0, 3.0]]],
         ),
+        // 4 of a piece after a ring that vanished.
+        17 => (
+            1.0,
+            vec![vec![
+                [1.0, 0.0],
+                [1.0, -1.0],
+                [0.25, -1.0],
+                [0.25, -3.0],
+                [2.25, -3.0],
+                [2.25, -1.0],
+                [1.5, -1.0],
+                [1.5, 0.0],
+                [3.0, 0.0],
+                [0.0, 4.0],
+                [0.0, 0.0],
+            ]],
+        ),
+        // Accepted, nearer than the distance: a tooth between levels that differ.
+        18 => (
+            1.0,
+            vec![vec![
+                [0.0, 0.0],
+                [9.0, 0.0],
+                [9.0, 4.0],
+                [5.0, 4.0],
+                [5.0, 6.0],
+                [4.0, 6.0],
+                [4.0, 3.0],
+                [0.0, 3.0],
+            ]],
+        ),
+        // Accepted without its left room: a spike's longer side goes too.
+        19 => (
+            0.6,
+            vec![vec![
+                [0.0, 0.0],
+                [10.0, 0.0],
+                [10.0, 4.0],
+                [7.0, 1.0],
+                [3.0, 1.0],
+                [0.0, 4.0],
+            ]],
+        ),
         // 19: nine rings that count as holes.
         _ => {
             let mut rings = vec![vec![
@@ -166,7 +209,7 @@ fn case(place: usize) -> (f64, Vec<Ring>) {
 
 /// One of the inputs, as it is or changed a little.
 pub fn known(draw: &mut Draw, _: usize) -> Vec<u8> {
-    let (mut distance, mut rings) = case(draw.below(18));
+    let (mut distance, mut rings) = case(draw.below(21));
     if draw.once_in(3) {
         distance *= mirror(draw, &mut rings);
     }

@@ -165,6 +165,32 @@ pub fn saw(draw: &mut Draw, most: usize) -> Vec<u8> {
     write(draw.once_in(4), distance * factor, &rings)
 }
 
+/// The same on both sides of an axis, in tenths: notches that face each other,
+/// their sides equal but for rounding.
+pub fn mirrored(draw: &mut Draw, most: usize) -> Vec<u8> {
+    let tenths = |draw: &mut Draw, low, high| draw.whole(low, high) as f64 / 10.0;
+    let half = 2 + draw.below(most.min(SMALL) / 2 - 1).min(3);
+    let off = draw.pick(&[0.1, 0.2, 0.3]);
+    let mut ring = Vec::new();
+    for _ in 0..40 {
+        ring = (0..half)
+            .map(|_| [tenths(draw, 0, 60), tenths(draw, 0, 90)])
+            .collect();
+        ring.sort_by(|p, q| p[1].total_cmp(&q[1]));
+        let back: Ring = ring.iter().rev().map(|p| [-p[0] - off, p[1]]).collect();
+        ring.extend(back);
+        if accepted(&ring) {
+            break;
+        }
+    }
+    let mut rings = [ring];
+    if draw.once_in(2) {
+        rings[0].iter_mut().for_each(|p| p.swap(0, 1));
+    }
+    let distance = tenths(draw, 1, 40);
+    write(draw.once_in(4), distance, &rings)
+}
+
 /// Small outlines at the limits of the coordinates: the tolerance is about a
 /// metre, a coordinate's last bit about a tenth of a micrometre.
 pub fn distant(draw: &mut Draw, most: usize) -> Vec<u8> {
