@@ -577,7 +577,7 @@ fn the_small_load() {
     }
 }
 
-/// The same lines on every machine.
+/// The same lines everywhere.
 #[test]
 fn the_load_is_fixed() {
     let mut sum = 0xcbf2_9ce4_8422_2325_u64;

@@ -48,7 +48,7 @@ pub fn square(side: f64) -> Ring {
 }
 
 /// The point of the unit circle after a part of a full turn, in plain
-/// arithmetic: the same bits on every machine.
+/// arithmetic: the same bits everywhere.
 pub fn compass(part: f64) -> Point {
     let quarters = (part - part.floor()) * 4.0;
     let angle = (quarters - quarters.floor()) * core::f64::consts::FRAC_PI_2;
