@@ -1,5 +1,5 @@
 -- What tidying leaves: nothing more to take out, and a velocity for every live vertex. So only tidying itself ever meets a vertex without one, and 17 inside the walk of an
--- offset comes from there alone. Proved in proofs/Demand/Whole.antt. Assumes nothing.
+-- offset comes from there alone. Proved in proofs/Demand, `same-bits` in Moves.antt and `front-velocity` in Whole.antt. Assumes nothing.
 use mathlib.Core.Path.{_≡_}
 use mathlib.Core.Logic.{_≢_}
 use mathlib.Core.Bool.{true, false}
@@ -17,7 +17,7 @@ use Rattle.error.specs.Refusals.{number}
 use Rattle.math.specs.Number.{finite}
 use Rattle.plane.specs.Plane.{dot}
 use Rattle.front.specs.Lines.{direction, normal}
-use Rattle.front.specs.Edges.{vertex}
+use Rattle.front.specs.Edges.{edge, edge-line, vertex}
 use Rattle.front.specs.Tidying.{find-tidy}
 use Rattle.front.specs.Loading.{Loads}
 use Rattle.front.specs.Sweeps.{offset-rings}
@@ -43,6 +43,8 @@ Moves f = (x : ℕ) → links f .live x ≡ 1 → (t : Float) → (p : PlanarPoi
 -- ---- the run of an offset
 
 pub record Velocity (d : Float) (l : Loaded) : Type 0 where
+  -- every live edge has a line that `Line::through` made, whether it was loaded or copied
+  pub lines : Each (λ t. (x : ℕ) → links ((tidied t) .edges) .live x ≡ 1 → Turned-left (edge-line (edge ((tidied t) .edges) x))) (run d l)
   -- `tidy` never runs out of its 129 steps: the last one changed nothing, and nothing is left to take out
   pub settled : Each (λ t. Looks t → ((tidied t) .changed ≡ false) × (find-tidy ((tidied t) .edges) (t .from .travelled) ≡ Settled)) (run d l)
   -- the live vertices of a tidied front all have a velocity

@@ -5,11 +5,11 @@ use mathlib.Core.Logic.{_≢_}
 use mathlib.Core.Bool.{Bool, true, false, cond, _&&_, _||_, true≢false, false≢true}
 use Prim.Native.Nat.{ℕ, zero, suc, _+_, _-_, _*_, _^_, _≤_, _<_}
 use native.Mathlib.Omega.{arith}
-use lib.Pow.{pow-pos}
 use lib.Dec.{ltb, eqb}
-use lib.IntN.{ℤ, pos, negsuc}
+use lib.IntN.{ℤ, pos}
 use borrow.Author.Tests.{ltb-true, ltb-false, lt-ltb, eq-eqb, ne-eqb, eqb-false}
 use lib.Ieee.{Float, nan, inf, fin, Format, binary64, lt, le, eq, neg, up, down, odd, units, round}
+use lib.Ieee.Fits.{up-pos}
 use Rattle.plane.specs.declared.PlanarPoint.{PlanarPoint}
 use Rattle.math.specs.Number
 use Rattle.math.specs.Number.{add, mul, div, zero-float, infinity, fmax, finite}
@@ -174,10 +174,6 @@ dot-nan u = ap (λ (x : Float). add x (mul (u .north) nan)) (mul-nan (u .east))
 missed : (u from to : PlanarPoint) → hit-within u nan-point from to ≡ false
 unfolding hit-within sub lib.Ieee.sub lib.Ieee.add
 missed u from to = ap (λ (b : Bool). b && le (neg on-edge) (dot u (sub to nan-point))) (ap (le (neg on-edge)) (dot-nan u) ∙ le-nan (neg on-edge))
-
-pub up-pos : (e : ℤ) → 0 < up e
-up-pos (pos k) = pow-pos k
-up-pos (negsuc k) = omega arith
 
 -- a number that is not below zero
 not-below : (x : Float) → lt x zero-float ≡ false → x ≢ nan → Forward x

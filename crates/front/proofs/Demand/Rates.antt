@@ -8,6 +8,7 @@ use native.Mathlib.Omega.{arith}
 use native.Mathlib.Nat.{le-trans, le-of-eq, le-of-mul-le-mul-right}
 use borrow.Author.Tests.{ltb-false}
 use lib.Ieee.{Float, nan, inf, fin, lt, up, down}
+use lib.Ieee.Fits.{down-pos}
 use Rattle.plane.specs.declared.PlanarPoint.{PlanarPoint}
 use Rattle.front.specs.declared.Line.{Line}
 use Rattle.front.specs.declared.Edge.{Edge}
@@ -30,7 +31,7 @@ use Rattle.front.proofs.Demand.Links.{RingsOf, live-next, live-prev}
 use Rattle.front.proofs.Demand.Views.{alive-of}
 use Rattle.front.proofs.Demand.Lines.{Lined}
 use Rattle.front.proofs.Demand.Search.{Rates}
-use Rattle.front.proofs.Demand.Small.{Small, Least, wider, add-small, sub-small, mul-small, div-small, down-pos}
+use Rattle.front.proofs.Demand.Small.{Small, Least, wider, add-small, sub-small, mul-small, div-small}
 
 -- the lines that loading makes: small, and the normal turned left from the direction
 pub record Bounded (l : Line) : Type 0 where

@@ -17,9 +17,11 @@ use Rattle.front.specs.Sweeps.{sweep-tidied, sweep-step}
 use Rattle.front.specs.Tidying.{find-tidy, tidy}
 use Rattle.front.specs.Links.{links}
 use Rattle.front.specs.Demand.{going, Turn, turn, turns, tidied, Looks, Leads, Each, found, Works, completed, events}
+use Rattle.front.specs.Edges.{edge}
+use Rattle.front.specs.Velocity.{Turned-left}
 use Rattle.loops.proofs.Laws.{steady, still, rounds-keep}
 use Rattle.front.proofs.Demand.Tallies.{Adds, adds-none, adds-then, Bound, bound-none, bound-then, by-any-point, completed-one}
-use Rattle.front.proofs.Demand.Sweeps.{Stands, State, Turned, turned, turn-settled, turn-stands, turn-seeks, turn-lives, turn-never}
+use Rattle.front.proofs.Demand.Sweeps.{Stands, State, Turned, turned, turn-settled, turn-stands, turn-seeks, turn-lines, turn-lives, turn-never}
 
 pub each : (P Q : Turn → Type 0) → ((t : Turn) → P t → Q t) → (ts : List Turn) → Each P ts → Each Q ts
 each P Q f [] h = tt
@@ -54,6 +56,7 @@ module _ (d : Float) (near : finite d ≡ true) (b : ℕ) where
     pub before : going (t .to) ≡ true → lt (t .to .travelled) d ≡ true
     pub settled : Looks t → ((tidied t) .changed ≡ false) × (find-tidy ((tidied t) .edges) (t .from .travelled) ≡ Settled)
     pub seeks : Looks t → found t ≢ Stalled
+    pub lines : (x : ℕ) → links ((tidied t) .edges) .live x ≡ 1 → Turned-left ((edge ((tidied t) .edges) x) .line)
     pub refused : number (t .to .refusal) ≡ 17 → (tidied t) .stalled ≡ true
 
   -- the turns ts from the sweep s on, of m rounds that lead to z
@@ -98,6 +101,7 @@ module _ (d : Float) (near : finite d ≡ true) (b : ℕ) where
       before = now .before;
       settled = turn-settled d near b i s h w;
       seeks = turn-seeks d near b i s h w;
+      lines = turn-lines d near b i s h w;
       refused = now .refused;
     }
 

@@ -13,12 +13,12 @@ use lib.Pow.{pow-pos, pow-mono, pow-add}
 use borrow.Author.Tests.{leb-false, eq-eqb, ne-eqb}
 use lib.Ieee.{Float, nan, inf, fin, binary64, lt, le, eq, up, down, size, nearest, units, round, unlike}
 use lib.Ieee.Digits.{size-lt}
+use lib.Ieee.Fits.{up-pos, down-pos}
 use lib.Ieee.Exact.{HasValue, odd-sign}
 use lib.Ieee.Nearest.{nearest-ge}
 use Rattle.math.specs.Number.{div, zero-float}
 use Rattle.hypotenuse.specs.Hypot.{whole-root, dropped, kept, round-root, count, hypot}
-use Rattle.front.proofs.Demand.Forward.{up-pos}
-use Rattle.front.proofs.Demand.Small.{Small, down-pos, round-small}
+use Rattle.front.proofs.Demand.Small.{Small, round-small}
 
 -- ---- the whole root: n is below the square of the next number
 
