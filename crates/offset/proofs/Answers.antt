@@ -34,7 +34,7 @@ use Rattle.front.specs.Sweeps.{sweep-from, offset-rings}
 use Rattle.front.specs.Demand.{Demand}
 use Rattle.front.specs.Loading.{outer}
 use Rattle.front.proofs.Demand.Whole.{loads-other}
-use Rattle.front.proofs.Demand.Small.{down-pos}
+use lib.Ieee.Fits.{down-pos}
 use Rattle.front.proofs.Demand.Shapes.{proper-is}
 use Rattle.front.proofs.Demand.Choice.{and-left}
 use Rattle.offset.specs.Offsets.{max-distance, check-distance, pieces-refused, expected, with-piece, visit-piece, pieces-refusal, pieces, keeps-clear, offset-clear, offset-found, offset-finished, offset-swept, offset-counted, offset-plain, outline-load, sweep, offset-from, offset-by, offset}
