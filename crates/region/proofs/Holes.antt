@@ -13,7 +13,6 @@ use Rattle.polygon.specs.declared.Outline.{Outline}
 use Rattle.region.specs.declared.Region.{Region}
 use Rattle.math.specs.Number.{zero-float}
 use Rattle.ring.specs.Ring.{vertex-at, stored-at}
-use Rattle.ring.specs.Store.{stored}
 use Rattle.polygon.specs.Outlines.{proper}
 use Rattle.front.proofs.Demand.Occ.{by-cases}
 use Rattle.front.proofs.Demand.Shapes.{proper-is}
@@ -68,17 +67,18 @@ module _ (P : List Float → ℕ → Type 0) where
   module _ (o : OfHoles P) (q : Region) (ps : List Float) (n : ℕ) (back : Bool) (p : n ≤ 32) (new : (qs : List Float) → ((k : ℕ) → k < n → vertex-at qs k ≡ stored-at ps n back k) → P qs n)
       (h : GoodHoles P q) where
     abbrev points : List Float
-    points = stored ps n back (32 * q .holes) (q .points)
+    points = (store-hole q ps n back) .points
 
     at-hole : (j k : ℕ) → vertex-at (drop (64 * j) points) k ≡ vertex-at points (32 * j + k)
     at-hole j k = hole-vertex points (64 * j) (32 * j) k (omega arith)
 
     new-hole : q .holes < 8 → P (drop (64 * q .holes) points) n
+    unfolding store-hole
     new-hole room =
         new (drop (64 * q .holes) points) (λ k l. at-hole (q .holes) k ∙ stored-new ps n back (32 * q .holes) (q .points) (omega (arith, h .size)) k l)
 
     old-hole : (j : ℕ) → j < q .holes → j < 8 → P (drop (64 * j) points) (hole-count q j)
-    unfolding hole-points hole-count
+    unfolding store-hole hole-points hole-count
     old-hole j l z =
         let g : P (drop (64 * j) (q .points)) (hole-count q j) = h .each j l z in
         o .same (drop (64 * j) (q .points)) (drop (64 * j) points) (hole-count q j)
@@ -93,7 +93,7 @@ module _ (P : List Float → ℕ → Type 0) where
     pub store-holes : q .holes < 8 → GoodHoles P (store-hole q ps n back)
     unfolding store-hole hole-points hole-count
     store-holes room = record {
-      size = stored-length ps n back (32 * q .holes) (q .points) ∙ h .size;
+      size = stored-length ps n back _ (q .points) ∙ h .size;
       places = length-set (q .counts) (q .holes) n ∙ h .places;
       each = λ j l z. hole-there room j l;
     }
