@@ -29,12 +29,13 @@ use Rattle.math.specs.Number
 use Rattle.math.specs.Number.{finite, zero-float}
 use Rattle.error.specs.Refusals.{number, values, granted}
 use Rattle.segment.specs.Segments.{segments-meet}
-use Rattle.ring.specs.Ring.{vertex-at, edge-end, signed-area, extent, stored-at}
+use Rattle.ring.specs.Ring.{vertex-at, edge-end, stored-at}
+use Rattle.measures.specs.Measures.{signed-area, extent}
 use Rattle.ring.specs.Store.{stored}
 use Rattle.ringcheck.specs.Checks.{check-ring}
-use Rattle.locate.specs.Contains.{ring-contains}
-use Rattle.locate.specs.Near.{nearest}
-use Rattle.locate.specs.Meet.{meet-step, meets-edge, rings-meet-step, rings-meet}
+use Rattle.contain.specs.Contains.{ring-contains}
+use Rattle.near.specs.Near.{nearest}
+use Rattle.meet.specs.Meet.{meet-step, meets-edge, rings-meet-step, rings-meet}
 use Rattle.polygon.specs.Outlines.{proper, no-outline, stored-outline, outline-refused, outline-of, outline-if, new-outline, outline, offset-tolerance, finite-step, check-finite}
 use Rattle.loops.proofs.Laws.{rounds-keep}
 use Rattle.front.proofs.Demand.Occ.{by-cases}

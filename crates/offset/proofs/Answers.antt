@@ -26,8 +26,9 @@ use Rattle.offset.specs.declared.Offset.{Offset}
 use Rattle.math.specs.Number
 use Rattle.math.specs.Number.{finite, zero-float}
 use Rattle.error.specs.Refusals.{number, values, granted}
-use Rattle.ring.specs.Ring.{vertex-at, signed-area, extent}
-use Rattle.locate.specs.Meet.{rings-meet}
+use Rattle.ring.specs.Ring.{vertex-at}
+use Rattle.measures.specs.Measures.{signed-area, extent}
+use Rattle.meet.specs.Meet.{rings-meet}
 use Rattle.ringcheck.specs.Checks.{check-ring}
 use Rattle.polygon.specs.Outlines.{proper, no-outline, stored-outline, outline-refused, outline-of, outline-if, new-outline, outline, offset-tolerance, check-finite}
 use Rattle.front.specs.Sweeps.{sweep-from, offset-rings}

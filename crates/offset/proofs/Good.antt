@@ -10,12 +10,12 @@ use lib.Dec.{ltb, eqb}
 use lib.ListN.{getD}
 use lib.Ieee.{Float, nan, inf, fin, lt, le, eq, up, down}
 use Rattle.plane.specs.declared.PlanarPoint.{PlanarPoint}
-use Rattle.ringcheck.specs.declared.Crossing.{Crossing}
-use Rattle.ringcheck.specs.declared.Crossing.the-variants.{Simple}
+use Rattle.simple.specs.declared.Crossing.{Crossing}
+use Rattle.simple.specs.declared.Crossing.the-variants.{Simple}
 use Rattle.math.specs.Number.{finite, abs}
 use Rattle.ring.specs.Ring.{vertex-at, following, source, stored-at}
 use Rattle.ring.proofs.Vertices.{following-lt}
-use Rattle.ringcheck.specs.Simple.{crossing, pair-step, edge-step, check-simple}
+use Rattle.simple.specs.Simple.{crossing, pair-step, edge-step, check-simple}
 use Rattle.ringcheck.specs.Checks.{max-coordinate, beyond}
 use Rattle.polygon.specs.Outlines.{in-range-step, in-range, proper}
 use Rattle.front.proofs.Demand.Occ.{by-cases}

@@ -15,7 +15,8 @@ use Rattle.error.specs.Refusals.{number, values, granted}
 use Rattle.loops.proofs.Laws.{rounds-keep}
 use Rattle.polygon.specs.declared.Outline.{Outline}
 use Rattle.polygon.specs.Outlines.{proper}
-use Rattle.polygon.specs.Queries.{ask, ask-outline, write-step, write-ring, write-refusal, outline-write, written-outline}
+use Rattle.lent.specs.Writes.{write-step, write-ring, write-refusal, ring-write, written-ring, outline-write, written-outline}
+use Rattle.polygon.specs.Outlines.{ask, ask-ring}
 use Rattle.front.proofs.Demand.Occ.{by-cases}
 use Rattle.offset.specs.declared.Offset.{Offset}
 use Rattle.offset.specs.Offsets.{offset}
@@ -78,11 +79,11 @@ ring-wrote u ps n out g l =
     }
 
 outline-fits : (o : Outline) (out : List Float) → Fits (2 * o .count) out (outline-write o out)
-unfolding outline-write ask-outline
+unfolding outline-write ring-write ask-ring
 outline-fits o out = ask-fits (2 * o .count) out (proper 128 (o .points) (o .count)) (write-refusal (2 * o .count) out) (refusal-fits (2 * o .count) out)
 
 pub outline-lent : OutlineLent
-unfolding written-outline
+unfolding written-outline written-ring outline-write
 outline-lent o out =
     let u : Refusal = outline-write o out in
     either (Wrote u (2 * o .count) (o .points) out) (granted u)

@@ -10,15 +10,16 @@ use Rattle.plane.specs.declared.PlanarPoint.{PlanarPoint}
 use Rattle.error.specs.declared.Refusal.{Refusal}
 use Rattle.error.specs.declared.Refusal.the-variants.{Granted, Few, Repeated, Flat, Splits, Collapses}
 use Rattle.ringcheck.specs.declared.Checked.{Checked}
-use Rattle.ringcheck.specs.declared.Crossing.{Crossing}
-use Rattle.ringcheck.specs.declared.Crossing.the-variants.{Simple, Edges}
+use Rattle.simple.specs.declared.Crossing.{Crossing}
+use Rattle.simple.specs.declared.Crossing.the-variants.{Simple, Edges}
 use Rattle.front.specs.declared.Walk.{Walk}
 use Rattle.offset.specs.declared.Piece.{Piece}
 use Rattle.offset.specs.declared.Piece.the-variants.{Shrunk, Failed, Whole}
 use Rattle.error.specs.Refusals.{number, values, granted, degenerate, offset-failure}
 use Rattle.math.specs.Number.{zero-float}
-use Rattle.ring.specs.Ring.{vertex-at, signed-area, span}
-use Rattle.ringcheck.specs.Simple.{check-simple}
+use Rattle.ring.specs.Ring.{vertex-at}
+use Rattle.measures.specs.Measures.{signed-area, span}
+use Rattle.simple.specs.Simple.{check-simple}
 use Rattle.ringcheck.specs.Checks.{kept, beyond, vertex-refusal, range-step, check-range, repeats, flat, crossed, refused, passed, check-turned, check-area, check-shape, check-in-range, check-kept, check-ring}
 use Rattle.loops.proofs.Laws.{rounds-keep}
 use Rattle.offset.specs.Rings.{check-piece, vanished, piece-by, offset-piece}

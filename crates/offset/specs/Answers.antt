@@ -9,18 +9,19 @@ use lib.Ieee.{Float, nan, lt, le, eq}
 use Rattle.plane.specs.declared.Containment.the-variants.{Inside, Outside}
 use Rattle.error.specs.declared.Refusal.{Refusal}
 use Rattle.error.specs.declared.Refusal.the-variants.{Granted, Shape}
-use Rattle.ringcheck.specs.declared.Crossing.the-variants.{Simple}
+use Rattle.simple.specs.declared.Crossing.the-variants.{Simple}
 use Rattle.polygon.specs.declared.Outline.{Outline}
 use Rattle.math.specs.Number
 use Rattle.math.specs.Number.{zero-float, one, add, mul}
 use Rattle.error.specs.Refusals.{number, values, granted}
 use Rattle.segment.specs.Segments.{segments-meet}
-use Rattle.ring.specs.Ring.{vertex-at, edge-end, extent}
-use Rattle.ringcheck.specs.Simple.{check-simple}
-use Rattle.locate.specs.Contains.{ring-contains}
-use Rattle.locate.specs.Near.{nearest}
+use Rattle.ring.specs.Ring.{vertex-at, edge-end}
+use Rattle.measures.specs.Measures.{extent}
+use Rattle.simple.specs.Simple.{check-simple}
+use Rattle.contain.specs.Contains.{ring-contains}
+use Rattle.near.specs.Near.{nearest}
 use Rattle.polygon.specs.Outlines.{outline, proper, no-outline, relative-tolerance}
-use Rattle.polygon.specs.Queries.{outline-write, written-outline}
+use Rattle.lent.specs.Writes.{outline-write, written-outline}
 use Rattle.offset.specs.Offsets.{offset, offset-plain, check-distance, outline-load}
 use Rattle.offset.specs.Lent.{offset-write, written-offset}
 

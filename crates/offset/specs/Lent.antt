@@ -8,7 +8,7 @@ use Rattle.polygon.specs.declared.Outline.{Outline}
 use Rattle.offset.specs.declared.Offset.{Offset}
 use Rattle.offset.specs.declared.OffsetWritten.{OffsetWritten}
 use Rattle.error.specs.Refusals.{granted}
-use Rattle.polygon.specs.Queries.{write-ring, write-refusal}
+use Rattle.lent.specs.Writes.{write-ring, write-refusal}
 use Rattle.offset.specs.Offsets.{offset}
 
 unfoldable pub write-offset : Offset → List Float → Refusal

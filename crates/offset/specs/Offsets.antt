@@ -19,10 +19,11 @@ use Rattle.offset.specs.declared.Offset.{Offset}
 use Rattle.math.specs.Number
 use Rattle.math.specs.Number.{finite, zero-float}
 use Rattle.error.specs.Refusals.{granted}
-use Rattle.ring.specs.Ring.{signed-area, vertex-at, extent}
-use Rattle.locate.specs.Near.{nearest}
-use Rattle.locate.specs.Contains.{ring-contains}
-use Rattle.locate.specs.Meet.{rings-meet}
+use Rattle.ring.specs.Ring.{vertex-at}
+use Rattle.measures.specs.Measures.{signed-area, extent}
+use Rattle.near.specs.Near.{nearest}
+use Rattle.contain.specs.Contains.{ring-contains}
+use Rattle.meet.specs.Meet.{rings-meet}
 use Rattle.polygon.specs.Outlines.{no-outline, stored-outline, outline-refused, offset-tolerance, proper}
 use Rattle.front.specs.Loading.{load-ring, loaded-nothing}
 use Rattle.front.specs.Sweeps.{offset-rings}

@@ -11,7 +11,7 @@ use Rattle.offset.specs.declared.Piece.{Piece}
 use Rattle.offset.specs.declared.Piece.the-variants.{Shrunk, Failed, Whole}
 use Rattle.error.specs.Refusals.{granted, degenerate, offset-failure}
 use Rattle.math.specs.Number.{abs, mul}
-use Rattle.ring.specs.Ring.{signed-area}
+use Rattle.measures.specs.Measures.{signed-area}
 use Rattle.ringcheck.specs.Checks.{check-ring}
 
 -- questions 4 to 9 of a ring that an offset left, for a room; its number is its place among the finished rings

@@ -1,4 +1,4 @@
--- polygon.rs, `Polygon`: the outline of given numbers (questions 1, 2 and 4 to 9), question 21, and what an outline is asked. Assumes nothing.
+-- polygon.rs, `Polygon`: the outline of given numbers (questions 1, 2 and 4 to 9), and question 21. Assumes nothing.
 use mathlib.Core.Bool.{Bool, true, cond, _&&_}
 use lib.Ieee.{Float, nan, binary64, le, ofBits}
 use Prim.Native.Nat.{ℕ, _*_, _/_, _%_}
@@ -6,21 +6,15 @@ use mathlib.Core.List.{List}
 use lib.Dec.{leb, eqb}
 use lib.ListN.{getD, replicate, length}
 use Rattle.polygon.specs.declared.Outline.{Outline}
-use Rattle.error.specs.declared.Refusal.the-variants.{Granted, NotFinite, Odd}
+use Rattle.error.specs.declared.Refusal.the-variants.{Granted, NotFinite, Odd, Shape}
 use Rattle.ringcheck.specs.declared.Checked.{Checked}
 use Rattle.polygon.specs.declared.NewOutline.{NewOutline}
 use Rattle.error.specs.declared.Refusal.{Refusal}
-use Rattle.plane.specs.declared.PlanarPoint.{PlanarPoint}
-use Rattle.plane.specs.declared.Containment.{Containment}
-use Rattle.locate.specs.Contains
-use Rattle.locate.specs.Near
-use Rattle.math.specs.Number.{zero-float, finite, abs, distance, add, mul, one, fmin, infinity}
+use Rattle.math.specs.Number.{zero-float, finite, abs, add, mul, one}
 use Rattle.ring.specs.Store.{stored}
 use Rattle.error.specs.Refusals.{granted}
 use Rattle.ringcheck.specs.Checks.{check-ring, max-coordinate}
 use Rattle.loops.specs.Loop.{rounds}
-use Rattle.ring.specs.Ring.{vertex-at}
-use Rattle.locate.specs.Meet.{rings-meet}
 
 -- the double nearest to 1e-9
 abbrev pub relative-tolerance : Float
@@ -67,26 +61,22 @@ in-range ps n = rounds (in-range-step ps) (2 * n) true
 unfoldable pub proper : ℕ → List Float → ℕ → Bool
 proper room ps n = leb 3 n && (leb n room && in-range ps n)
 
-unfoldable pub contains : Outline → PlanarPoint → Containment
-contains o p = Contains.ring-contains (o .points) (o .count) p
+-- 21 is asked first of a shape that is handed in
+unfoldable pub ask : Bool → Refusal → Refusal
+ask proper r = cond proper r Shape
 
-unfoldable pub distance-to-boundary : Outline → PlanarPoint → Float
-distance-to-boundary o p = distance ((Near.nearest (o .points) (o .count) p) .gap)
+-- an outline as numbers, and how many vertices they are
+unfoldable pub ask-ring : List Float → ℕ → Refusal → Refusal
+ask-ring ps n r = ask (proper 128 ps n) r
 
-unfoldable pub closest-boundary-point : Outline → PlanarPoint → PlanarPoint
-closest-boundary-point o p = (Near.nearest (o .points) (o .count) p) .foot
+unfoldable pub ask-outline : Outline → Refusal → Refusal
+ask-outline o r = ask-ring (o .points) (o .count) r
 
 -- the slack of the check that every offset vertex keeps the full distance
 unfoldable pub offset-tolerance : Float → Float → Float
 offset-tolerance d e = mul relative-tolerance (add (add one d) e)
 
--- the clearance of a second outline from a first: the least gap over the second's vertices against the first's edges, and 0 if the rings meet
-unfoldable pub clearance : Outline → Outline → Float
-clearance a b =
-    cond (rings-meet (b .points) (b .count) (a .points) (a .count)) zero-float
-    (distance (Near.least-gap (a .points) (a .count) (b .points) (b .count)))
-
 -- opens every definition above, for a proof that computes with all of them
 unfoldable pub open-outlines : Unit {0}
-unfolding no-outline stored-outline outline-refused outline-of new-outline finite-step check-finite outline-if outline in-range-step in-range proper contains distance-to-boundary closest-boundary-point offset-tolerance clearance
+unfolding no-outline stored-outline outline-refused outline-of new-outline finite-step check-finite outline-if outline in-range-step in-range proper ask ask-ring ask-outline offset-tolerance
 open-outlines = tt

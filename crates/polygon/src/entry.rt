@@ -43,7 +43,7 @@ pub fn outline_if(ps: &[f64], r: Refusal) -> NewOutline
 pub fn in_range_step(ps: &[f64], k: usize, s: bool) -> bool
     ensures { λ r. ⌜ r ≡ Outlines.in-range-step (now (ps .entry)) k s ⌝ }
 {
-    s & (math::abs(ring::number_at(ps, k)) <= ringcheck::check::MAX_COORDINATE)
+    s & (math::abs(ring::number_at(ps, k)) <= ringcheck::MAX_COORDINATE)
 }
 
 pub(crate) fn in_range(ps: &[f64], n: usize) -> bool
@@ -69,4 +69,11 @@ pub(crate) fn proper(room: usize, ps: &[f64], n: usize) -> bool
     } else {
         false
     }
+}
+
+// 21 is asked first of an outline that is handed in.
+pub fn ask_ring(ps: &[f64], n: usize, r: Refusal) -> Refusal
+    ensures { λ x. ⌜ x ≡ Outlines.ask-ring (now (ps .entry)) n r ⌝ }
+{
+    error::choose(proper(128, ps, n), r, Refusal::Shape)
 }

@@ -1,15 +1,11 @@
-// Outlines: the checks of a ring, what is asked of an outline. A ring is a list of numbers, two a vertex, east then north. An outline has room for 128 vertices.
-
+// Outlines: from numbers to an outline, and question 21 of one handed in. A ring is a list of numbers, two a vertex, east then north. An outline has room for 128 vertices.
 ghost use mathlib.Core.Path.{_≡_};
 ghost use Rattle.polygon.specs.Outlines;
 
 pub mod entry;
-pub mod query;
 pub mod store;
 
 use error::Refusal;
-use plane::Containment;
-use plane::PlanarPoint;
 
 // An outline: its first `count` vertices, counter-clockwise; the rest is 0.
 pub struct Outline {
@@ -21,22 +17,6 @@ pub struct Outline {
 pub struct NewOutline {
     pub refusal: Refusal,
     pub shape: Outline,
-}
-
-// What a question about a shape and a point answers: 21 of the shape, 2 of the point, then the value.
-pub struct Placed {
-    pub refusal: Refusal,
-    pub place: Containment,
-}
-
-pub struct Measured {
-    pub refusal: Refusal,
-    pub value: f64,
-}
-
-pub struct Footed {
-    pub refusal: Refusal,
-    pub point: PlanarPoint,
 }
 
 impl Outline {

@@ -63,5 +63,5 @@ pub fn outline_of(ps: &[f64], c: Checked) -> NewOutline
 pub fn new_outline(ps: &[f64], n: usize) -> NewOutline
     ensures { λ r. ⌜ r ≡ Outlines.new-outline (now (ps .entry)) n ⌝ }
 {
-    outline_of(ps, ringcheck::check::check_ring(128, 0, ps, n))
+    outline_of(ps, ringcheck::check_ring(128, 0, ps, n))
 }

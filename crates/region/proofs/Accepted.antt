@@ -10,7 +10,7 @@ use lib.Ieee.{Float, le, eq}
 use Rattle.plane.specs.declared.PlanarPoint.{PlanarPoint}
 use Rattle.error.specs.declared.Refusal.{Refusal}
 use Rattle.error.specs.declared.Refusal.the-variants.{Granted, Splits, Collapses, Shape, ManyPieces}
-use Rattle.ringcheck.specs.declared.Crossing.the-variants.{Simple}
+use Rattle.simple.specs.declared.Crossing.the-variants.{Simple}
 use Rattle.front.specs.declared.Edge.{Edge}
 use Rattle.front.specs.declared.Walk.{Walk}
 use Rattle.front.specs.declared.Sweep.{Sweep}
@@ -25,8 +25,8 @@ use Rattle.math.specs.Number.{zero-float}
 use Rattle.error.specs.Refusals.{number, values, granted, region-failure}
 use Rattle.error.proofs.Laws.{granted-is}
 use Rattle.ring.specs.Ring.{vertex-at}
-use Rattle.ringcheck.specs.Simple.{check-simple}
-use Rattle.locate.specs.Meet.{rings-meet}
+use Rattle.simple.specs.Simple.{check-simple}
+use Rattle.meet.specs.Meet.{rings-meet}
 use Rattle.polygon.specs.Outlines.{stored-outline, offset-tolerance}
 use Rattle.front.proofs.Demand.Choice.{and-left, and-right}
 use Rattle.offset.specs.Clear.{is-inside, every-vertex}

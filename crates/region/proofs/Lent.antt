@@ -11,7 +11,7 @@ use Rattle.error.specs.Refusals.{granted}
 use Rattle.error.proofs.Laws.{granted-is}
 use Rattle.loops.specs.Loop.{rounds}
 use Rattle.loops.proofs.Laws.{rounds-keep}
-use Rattle.polygon.specs.Queries.{write-ring, write-refusal}
+use Rattle.lent.specs.Writes.{write-ring, write-refusal}
 use Rattle.front.proofs.Demand.Occ.{by-cases}
 use Rattle.offset.proofs.Choices.{either, sums-to}
 use Rattle.offset.proofs.Lent.{Writing, ring-writing, Fits, refusal-fits, ask-fits}

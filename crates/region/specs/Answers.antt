@@ -10,7 +10,7 @@ use lib.Ieee.{Float, nan, lt, le, eq}
 use Rattle.plane.specs.declared.Containment.the-variants.{Inside}
 use Rattle.error.specs.declared.Refusal.{Refusal}
 use Rattle.error.specs.declared.Refusal.the-variants.{Granted, Shape}
-use Rattle.ringcheck.specs.declared.Crossing.the-variants.{Simple}
+use Rattle.simple.specs.declared.Crossing.the-variants.{Simple}
 use Rattle.polygon.specs.declared.Outline.{Outline}
 use Rattle.region.specs.declared.Region.{Region}
 use Rattle.region.specs.declared.NewRegion.{NewRegion}
@@ -19,7 +19,7 @@ use Rattle.math.specs.Number.{zero-float, one, add, mul}
 use Rattle.error.specs.Refusals.{granted}
 use Rattle.segment.specs.Segments.{segments-meet}
 use Rattle.ring.specs.Ring.{vertex-at, edge-end}
-use Rattle.ringcheck.specs.Simple.{check-simple}
+use Rattle.simple.specs.Simple.{check-simple}
 use Rattle.polygon.specs.Outlines.{relative-tolerance}
 use Rattle.offset.specs.Offsets.{check-distance}
 use Rattle.offset.specs.Answers.{AnswerDemand, EmptyOutline}

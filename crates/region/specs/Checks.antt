@@ -14,9 +14,9 @@ use Rattle.error.specs.declared.Refusal.{Refusal}
 use Rattle.error.specs.declared.Refusal.the-variants.{Granted, HoleOutside, HolesTouch, ManyHoles, Lengths, Odd, Shape}
 use Rattle.ringcheck.specs.declared.Checked.{Checked}
 use Rattle.ring.specs.Ring.{vertex-at}
-use Rattle.locate.specs.Contains.{ring-contains}
+use Rattle.contain.specs.Contains.{ring-contains}
 use Rattle.loops.specs.Loop.{rounds}
-use Rattle.locate.specs.Meet.{rings-meet}
+use Rattle.meet.specs.Meet.{rings-meet}
 use Rattle.error.specs.Refusals.{granted}
 use Rattle.region.specs.Regions.{hole-points, hole-count, no-region, with-hole, with-outer}
 use Rattle.ringcheck.specs.Checks.{check-ring}

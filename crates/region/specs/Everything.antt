@@ -7,14 +7,16 @@ use Rattle.plane.specs.Points.{open-points}
 use Rattle.segment.specs.Segments.{open-segments}
 use Rattle.error.specs.Refusals.{open-refusals}
 use Rattle.ring.specs.Ring.{open-ring}
-use Rattle.ringcheck.specs.Simple.{open-simple}
-use Rattle.locate.specs.Contains.{open-contains}
-use Rattle.locate.specs.Near.{open-near}
-use Rattle.locate.specs.Meet.{open-meet}
+use Rattle.measures.specs.Measures.{open-measures}
+use Rattle.simple.specs.Simple.{open-simple}
+use Rattle.contain.specs.Contains.{open-contains}
+use Rattle.near.specs.Near.{open-near}
+use Rattle.meet.specs.Meet.{open-meet}
 use Rattle.ringcheck.specs.Checks.{open-checks}
 use Rattle.ring.specs.Store.{open-store}
 use Rattle.polygon.specs.Outlines.{open-outlines}
-use Rattle.polygon.specs.Queries.{open-queries}
+use Rattle.lent.specs.Writes.{open-writes}
+use Rattle.queries.specs.Queries.{open-queries}
 use Rattle.front.specs.Lines.{open-lines}
 use Rattle.front.specs.Edges.{open-edges}
 use Rattle.front.specs.Tidying.{open-tidying}
@@ -32,5 +34,5 @@ use Rattle.region.specs.Insets.{open-insets}
 use Rattle.region.specs.Queries.{open-queries as open-region-queries}
 
 unfoldable pub open-everything : Unit {0}
-unfolding open-loop open-number open-hypot open-plane open-points open-segments open-refusals open-ring open-simple open-contains open-near open-meet open-checks open-store open-outlines open-queries open-lines open-edges open-tidying open-next-event open-splitting open-loading open-sweeps open-finished open-rings open-clear open-offsets open-regions open-region-checks open-insets open-region-queries
+unfolding open-loop open-number open-hypot open-plane open-points open-segments open-refusals open-ring open-measures open-simple open-contains open-near open-meet open-checks open-store open-outlines open-writes open-queries open-lines open-edges open-tidying open-next-event open-splitting open-loading open-sweeps open-finished open-rings open-clear open-offsets open-regions open-region-checks open-insets open-region-queries
 open-everything = tt

@@ -22,8 +22,9 @@ use Rattle.math.specs.Number
 use Rattle.math.specs.Number.{zero-float}
 use Rattle.error.specs.Refusals.{region-failure, granted}
 use Rattle.loops.specs.Loop.{rounds}
-use Rattle.ring.specs.Ring.{signed-area, vertex-at}
-use Rattle.locate.specs.Meet.{rings-meet}
+use Rattle.ring.specs.Ring.{vertex-at}
+use Rattle.measures.specs.Measures.{signed-area}
+use Rattle.meet.specs.Meet.{rings-meet}
 use Rattle.polygon.specs.Outlines.{stored-outline, offset-tolerance}
 use Rattle.front.specs.Loading.{load-ring, loaded-nothing}
 use Rattle.front.specs.Sweeps.{offset-rings}

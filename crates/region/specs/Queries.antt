@@ -8,9 +8,9 @@ use lib.Ieee.{Float}
 use Rattle.region.specs.declared.Region.{Region}
 use Rattle.error.specs.declared.Refusal.{Refusal}
 use Rattle.plane.specs.declared.PlanarPoint.{PlanarPoint}
-use Rattle.polygon.specs.declared.Placed.{Placed}
-use Rattle.polygon.specs.declared.Measured.{Measured}
-use Rattle.polygon.specs.declared.Footed.{Footed}
+use Rattle.queries.specs.declared.Placed.{Placed}
+use Rattle.queries.specs.declared.Measured.{Measured}
+use Rattle.queries.specs.declared.Footed.{Footed}
 use Rattle.polygon.specs.declared.Outline.{Outline}
 use Rattle.polygon.specs.declared.NewOutline.{NewOutline}
 use Rattle.region.specs.declared.RegionWritten.{RegionWritten}
@@ -19,7 +19,9 @@ use Rattle.region.specs.declared.InsetWritten.{InsetWritten}
 use Rattle.error.specs.declared.Refusal.the-variants.{Granted, Shape}
 use Rattle.error.specs.Refusals.{granted}
 use Rattle.polygon.specs.Outlines.{no-outline, stored-outline, outline-refused}
-use Rattle.polygon.specs.Queries.{ask, placed, measured, footed, write-ring, write-refusal}
+use Rattle.queries.specs.Queries.{placed, measured, footed}
+use Rattle.lent.specs.Writes.{write-ring, write-refusal}
+use Rattle.polygon.specs.Outlines.{ask}
 use Rattle.region.specs.Regions
 use Rattle.region.specs.Regions.{ring-points, ring-count, hole-points, hole-count}
 use Rattle.region.specs.Checks.{proper-region}

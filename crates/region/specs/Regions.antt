@@ -10,16 +10,16 @@ use Rattle.polygon.specs.declared.Outline.{Outline}
 use Rattle.plane.specs.declared.Containment.{Containment}
 use Rattle.plane.specs.declared.Containment.the-variants.{Inside, OnBoundary, Outside}
 use Rattle.plane.specs.declared.PlanarPoint.{PlanarPoint}
-use Rattle.ring.specs.Ring
+use Rattle.measures.specs.Measures
 use Rattle.math.specs.Number
 use Rattle.math.specs.Number.{zero-float, distance, add, fmax}
 use Rattle.polygon.specs.Outlines.{no-outline}
 use Rattle.ring.specs.Store.{stored}
-use Rattle.locate.specs.Contains.{ring-contains}
+use Rattle.contain.specs.Contains.{ring-contains}
 use Rattle.loops.specs.Loop.{rounds}
 use Rattle.plane.specs.Points.{distance-to}
-use Rattle.ring.specs.Ring.{extent}
-use Rattle.locate.specs.Near.{nearest}
+use Rattle.measures.specs.Measures.{extent}
+use Rattle.near.specs.Near.{nearest}
 
 unfoldable pub no-region : Region
 no-region = record { outer = no-outline; points = replicate 512 zero-float; counts = replicate 8 0; holes = 0 }
@@ -89,16 +89,16 @@ distance-to-boundary r p = distance-to p (closest-boundary-point r p)
 -- ---- area, perimeter, extent
 
 unfoldable pub area-step : Region → ℕ → Float → Float
-area-step r k s = add s (Ring.area (hole-points r k) (hole-count r k))
+area-step r k s = add s (Measures.area (hole-points r k) (hole-count r k))
 
 unfoldable pub area : Region → Float
-area r = fmax (Number.sub (Ring.area (r .outer .points) (r .outer .count)) (rounds (area-step r) (r .holes) zero-float)) zero-float
+area r = fmax (Number.sub (Measures.area (r .outer .points) (r .outer .count)) (rounds (area-step r) (r .holes) zero-float)) zero-float
 
 unfoldable pub perimeter-step : Region → ℕ → Float → Float
-perimeter-step r k s = add s (Ring.perimeter (hole-points r k) (hole-count r k))
+perimeter-step r k s = add s (Measures.perimeter (hole-points r k) (hole-count r k))
 
 unfoldable pub perimeter : Region → Float
-perimeter r = distance (add (Ring.perimeter (r .outer .points) (r .outer .count)) (rounds (perimeter-step r) (r .holes) zero-float))
+perimeter r = distance (add (Measures.perimeter (r .outer .points) (r .outer .count)) (rounds (perimeter-step r) (r .holes) zero-float))
 
 unfoldable pub extent-step : Region → ℕ → Float → Float
 extent-step r k s = fmax s (extent (hole-points r k) (hole-count r k))

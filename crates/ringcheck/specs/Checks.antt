@@ -7,15 +7,16 @@ use lib.Dec.{ltb}
 use Rattle.plane.specs.declared.PlanarPoint.{PlanarPoint}
 use Rattle.error.specs.declared.Refusal.{Refusal}
 use Rattle.error.specs.declared.Refusal.the-variants.{Granted, Range, Room, Crossed, Flat, Repeated, Few}
-use Rattle.ringcheck.specs.declared.Crossing.{Crossing}
-use Rattle.ringcheck.specs.declared.Crossing.the-variants.{Simple, Edges}
+use Rattle.simple.specs.declared.Crossing.{Crossing}
+use Rattle.simple.specs.declared.Crossing.the-variants.{Simple, Edges}
 use Rattle.ringcheck.specs.declared.Checked.{Checked}
 use Rattle.plane.specs.Plane.{same}
-use Rattle.ring.specs.Ring.{vertex-at, edge-end, span, signed-area}
+use Rattle.ring.specs.Ring.{vertex-at, edge-end}
+use Rattle.measures.specs.Measures.{span, signed-area}
 use Rattle.math.specs.Number.{abs, mul, zero-float}
 use Rattle.error.specs.Refusals.{granted}
 use Rattle.loops.specs.Loop.{rounds}
-use Rattle.ringcheck.specs.Simple.{check-simple}
+use Rattle.simple.specs.Simple.{check-simple}
 
 -- 1e9
 abbrev pub max-coordinate : Float

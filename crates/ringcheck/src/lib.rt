@@ -1,19 +1,192 @@
-// The check of a ring: questions 4 to 9, for any room.
-
-pub mod check;
-pub mod simple;
-
+// The check of a ring: questions 4 to 9. `room` is how many vertices there is room for, `index` the ring's number.
+ghost use mathlib.Core.Path.{_≡_};
+ghost use mathlib.Core.Bool.{cond};
+ghost use Rattle.ringcheck.specs.Checks;
 use error::Refusal;
-
-// The first two edges of a ring that cross or touch, if any.
-pub enum Crossing {
-    Simple,
-    Edges(usize, usize),
-}
+use plane::PlanarPoint;
+use simple::Crossing;
 
 // What the ring check answers: how many vertices are kept, and whether they are stored in reverse.
 pub struct Checked {
     pub refusal: Refusal,
     pub count: usize,
     pub back: bool,
+}
+
+pub const MAX_COORDINATE: f64 = 1e9;
+
+const MIN_RELATIVE_AREA: f64 = 1e-12;
+
+// a where the test holds, else b.
+pub fn choose(test: bool, a: Checked, b: Checked) -> Checked
+    ensures { λ r. ⌜ r ≡ cond test a b ⌝ }
+{
+    if test { a } else { b }
+}
+
+// How many vertices are kept: one closing repeat is dropped.
+pub fn kept(ps: &[f64], n: usize) -> usize
+    ensures { λ r. ⌜ r ≡ Checks.kept (now (ps .entry)) n ⌝ }
+{
+    let last = ring::less(n, 1);
+    let closes = plane::same(ring::vertex_at(ps, last), ring::vertex_at(ps, 0));
+    ring::choose((1 < n) & closes, last, n)
+}
+
+pub fn beyond(x: f64) -> bool
+    ensures { λ r. ⌜ r ≡ Checks.beyond x ⌝ }
+{
+    MAX_COORDINATE < math::abs(x)
+}
+
+// Range, east then north, then room.
+pub fn vertex_refusal(room: usize, index: usize, n: usize, k: usize, v: PlanarPoint) -> Refusal
+    ensures { λ r. ⌜ r ≡ Checks.vertex-refusal room index n k v ⌝ }
+{
+    let fits = error::choose(k < room, Refusal::Granted, Refusal::Room(index, n, room));
+    let north = error::choose(beyond(v.north), Refusal::Range(index, v.north), fits);
+    error::choose(beyond(v.east), Refusal::Range(index, v.east), north)
+}
+
+pub fn range_step(room: usize, index: usize, ps: &[f64], n: usize, k: usize, r: Refusal) -> Refusal
+    ensures { λ x. ⌜ x ≡ Checks.range-step room index (now (ps .entry)) n k r ⌝ }
+{
+    let here = vertex_refusal(room, index, n, k, ring::vertex_at(ps, k));
+    error::choose(r.granted(), here, r)
+}
+
+pub fn check_range(room: usize, index: usize, ps: &[f64], n: usize) -> Refusal
+    ensures { λ r. ⌜ r ≡ Checks.check-range room index (now (ps .entry)) n ⌝ }
+{
+    let mut s = Refusal::Granted;
+    let mut k = 0;
+    while k < n {
+        s = range_step(room, index, ps, n, k, s);
+        k += 1;
+    }
+    s
+}
+
+pub fn repeat_step(ps: &[f64], n: usize, k: usize, s: bool) -> bool
+    ensures { λ r. ⌜ r ≡ Checks.repeat-step (now (ps .entry)) n k s ⌝ }
+{
+    let a = ring::vertex_at(ps, k);
+    let b = ring::edge_end(ps, n, k);
+    s | plane::same(a, b)
+}
+
+// Whether two neighbours are equal.
+pub fn repeats(ps: &[f64], n: usize) -> bool
+    ensures { λ r. ⌜ r ≡ Checks.repeats (now (ps .entry)) n ⌝ }
+{
+    let mut s = false;
+    let mut k = 0;
+    while k < n {
+        s = repeat_step(ps, n, k, s);
+        k += 1;
+    }
+    s
+}
+
+// Whether the area is nothing beside the square of the span s.
+pub fn flat(signed: f64, s: f64) -> bool
+    ensures { λ r. ⌜ r ≡ Checks.flat signed s ⌝ }
+{
+    math::abs(signed) <= MIN_RELATIVE_AREA * s * s
+}
+
+// Edge k of the reversed ring is edge n - 1 - k of the input.
+pub fn crossed(index: usize, n: usize, back: bool, c: Crossing) -> Refusal
+    ensures { λ r. ⌜ r ≡ Checks.crossed index n back c ⌝ }
+{
+    match c {
+        Crossing::Simple => Refusal::Granted,
+        Crossing::Edges(i, j) => {
+            let last = ring::less(n, 1);
+            let first = ring::less(last, j);
+            let second = ring::less(last, i);
+            error::choose(
+                back,
+                Refusal::Crossed(index, first, second),
+                Refusal::Crossed(index, i, j),
+            )
+        }
+    }
+}
+
+pub fn refused(r: Refusal) -> Checked
+    ensures { λ x. ⌜ x ≡ Checks.refused r ⌝ }
+{
+    Checked {
+        refusal: r,
+        count: 0,
+        back: false,
+    }
+}
+
+pub fn passed(r: Refusal, n: usize, back: bool) -> Checked
+    ensures { λ x. ⌜ x ≡ Checks.passed r n back ⌝ }
+{
+    let all = Checked {
+        refusal: Refusal::Granted,
+        count: n,
+        back: back,
+    };
+    choose(r.granted(), all, refused(r))
+}
+
+pub fn check_turned(index: usize, ps: &[f64], n: usize, back: bool) -> Checked
+    ensures { λ r. ⌜ r ≡ Checks.check-turned index (now (ps .entry)) n back ⌝ }
+{
+    passed(
+        crossed(index, n, back, simple::check_simple(ps, n, back)),
+        n,
+        back,
+    )
+}
+
+pub fn check_area(index: usize, ps: &[f64], n: usize, signed: f64) -> Checked
+    ensures { λ r. ⌜ r ≡ Checks.check-area index (now (ps .entry)) n signed ⌝ }
+{
+    if flat(signed, measures::span(ps, n)) {
+        refused(Refusal::Flat(index))
+    } else {
+        check_turned(index, ps, n, signed < 0.0)
+    }
+}
+
+pub fn check_shape(index: usize, ps: &[f64], n: usize) -> Checked
+    ensures { λ r. ⌜ r ≡ Checks.check-shape index (now (ps .entry)) n ⌝ }
+{
+    if repeats(ps, n) {
+        refused(Refusal::Repeated(index))
+    } else {
+        check_area(index, ps, n, measures::signed_area(ps, n))
+    }
+}
+
+pub fn check_in_range(index: usize, ps: &[f64], n: usize, r: Refusal) -> Checked
+    ensures { λ x. ⌜ x ≡ Checks.check-in-range index (now (ps .entry)) n r ⌝ }
+{
+    if r.granted() {
+        check_shape(index, ps, n)
+    } else {
+        refused(r)
+    }
+}
+
+pub fn check_kept(room: usize, index: usize, ps: &[f64], n: usize) -> Checked
+    ensures { λ r. ⌜ r ≡ Checks.check-kept room index (now (ps .entry)) n ⌝ }
+{
+    if n < 3 {
+        refused(Refusal::Few(index, n))
+    } else {
+        check_in_range(index, ps, n, check_range(room, index, ps, n))
+    }
+}
+
+pub fn check_ring(room: usize, index: usize, ps: &[f64], n: usize) -> Checked
+    ensures { λ r. ⌜ r ≡ Checks.check-ring room index (now (ps .entry)) n ⌝ }
+{
+    check_kept(room, index, ps, kept(ps, n))
 }

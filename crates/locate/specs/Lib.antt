@@ -1,3 +1,0 @@
-pub mod Contains
-pub mod Near
-pub mod Meet

@@ -1,0 +1,22 @@
+-- `meet::meet_step` meets its contract. Assumes nothing.
+use Rattle.meet.specs.Meet
+use borrow.Author.Needs.{needs}
+use Rattle.meet.proofs.meet_step.Statement.{statement}
+use Rattle.meet.proofs.meet_step.Tie as tie
+
+vertex-at-requires : tie.Need-vertex-at-requires
+vertex-at-requires c κs = search needs
+
+edge-end-requires : tie.Need-edge-end-requires
+edge-end-requires c κs = search needs
+
+segments-meet-requires : tie.Need-segments-meet-requires
+segments-meet-requires c κs = search needs
+
+returns : tie.Need-returns
+unfolding Meet.meet-step
+returns c = cc
+
+pub meet-step-spec : {M : Type 1} → statement M
+meet-step-spec =
+    tie.close (tie.spec vertex-at-requires edge-end-requires segments-meet-requires returns)

@@ -1,0 +1,15 @@
+-- `ringcheck::flat` meets its contract. Assumes nothing.
+use Rattle.ringcheck.specs.Checks
+use borrow.Author.Needs.{needs}
+use Rattle.ringcheck.proofs.flat.Statement.{statement}
+use Rattle.ringcheck.proofs.flat.Tie as tie
+
+abs-requires : tie.Need-abs-requires
+abs-requires c κs = search needs
+
+returns : tie.Need-returns
+unfolding Checks.flat
+returns c = cc
+
+pub flat-spec : {M : Type 1} → statement M
+flat-spec = tie.close (tie.spec abs-requires returns)
