@@ -46,7 +46,7 @@ pub struct Answer {
 }
 
 impl Refusal {
-    fn of(number: u32, wholes: &[usize], floats: &[f64]) -> Self {
+    pub(crate) fn of(number: u32, wholes: &[usize], floats: &[f64]) -> Self {
         Self {
             number,
             ring: None,
@@ -55,7 +55,7 @@ impl Refusal {
         }
     }
 
-    fn in_ring(self, ring: usize) -> Self {
+    pub(crate) fn in_ring(self, ring: usize) -> Self {
         Self {
             ring: Some(ring),
             ..self
@@ -129,22 +129,28 @@ fn run(job: &Job, single: Single) -> Result<Vec<Vec<PlanarPoint>>, Refusal> {
     Ok(result)
 }
 
-/// Questions 1, 2 and 3; at least one ring.
-fn rings(job: &Job) -> Result<Vec<Vec<PlanarPoint>>, Refusal> {
-    if job.numbers.len() % 2 != 0 {
+/// Questions 1 and 2.
+pub(crate) fn points(numbers: &[f64]) -> Result<Vec<PlanarPoint>, Refusal> {
+    if numbers.len() % 2 != 0 {
         return Err(Refusal::of(1, &[], &[]));
     }
-    if let Some(index) = job.numbers.iter().position(|number| !number.is_finite()) {
+    if let Some(index) = numbers.iter().position(|number| !number.is_finite()) {
         return Err(Refusal::of(2, &[index], &[]));
     }
+    Ok(numbers
+        .chunks_exact(2)
+        .map(|pair| PlanarPoint::from_metres(pair[0], pair[1]).expect("finite"))
+        .collect())
+}
+
+/// Questions 1, 2 and 3; at least one ring.
+fn rings(job: &Job) -> Result<Vec<Vec<PlanarPoint>>, Refusal> {
+    let points = points(&job.numbers)?;
     let needed: usize = job.counts.iter().sum();
-    if job.counts.is_empty() || needed != job.numbers.len() / 2 {
+    if job.counts.is_empty() || needed != points.len() {
         return Err(Refusal::of(3, &[], &[]));
     }
-    let mut points = job
-        .numbers
-        .chunks_exact(2)
-        .map(|pair| PlanarPoint::from_metres(pair[0], pair[1]).expect("question 2 has passed"));
+    let mut points = points.into_iter();
     Ok(job
         .counts
         .iter()
@@ -161,7 +167,7 @@ fn checked_distance(distance: f64) -> Result<Distance, Refusal> {
 }
 
 /// Questions 4 to 9.
-fn of_ring(error: NavigationError) -> Refusal {
+pub(crate) fn of_ring(error: NavigationError) -> Refusal {
     match error {
         NavigationError::Kernel(KernelError::InsufficientData { found, .. }) => {
             Refusal::of(4, &[found], &[])
@@ -228,7 +234,7 @@ fn of_offset(error: NavigationError) -> Refusal {
 }
 
 /// A number of an answer line; a zero has no sign.
-fn bits(number: f64) -> u64 {
+pub(crate) fn bits(number: f64) -> u64 {
     if number == 0.0 {
         0
     } else {

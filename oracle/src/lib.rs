@@ -21,4 +21,5 @@ pub mod generate;
 pub mod hypot;
 pub mod job;
 pub mod lines;
+pub mod outlines;
 pub mod tally;

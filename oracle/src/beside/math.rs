@@ -4,6 +4,7 @@
 #[path = "../kinavis/kernel/math.rs"]
 mod kernel;
 
+#[cfg(not(feature = "unpatched"))]
 pub use crate::hypot::chosen as hypot;
 pub use kernel::*;
 

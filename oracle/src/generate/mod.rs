@@ -4,9 +4,12 @@ mod broken;
 mod door;
 mod known;
 mod outlines;
+mod questions;
 mod rare;
 mod regions;
 mod shape;
+
+pub use questions::question;
 
 use crate::draw::Draw;
 use crate::job::Job;

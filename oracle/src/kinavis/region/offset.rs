@@ -574,3 +574,21 @@ impl<const N: usize> Finished<N> {
         Ok(())
     }
 }
+
+/// ORACLE: what `Polygon` keeps to its module, for questions about an outline.
+impl<const N: usize> super::Polygon<N> {
+    /// The largest coordinate, without its sign.
+    pub fn oracle_extent(&self) -> f64 {
+        self.extent()
+    }
+
+    /// The distance to the nearest boundary point, as `nearest` has it.
+    pub fn oracle_gap(&self, point: PlanarPoint) -> f64 {
+        self.nearest(point).0
+    }
+
+    /// Whether any edge of this ring meets any edge of the other.
+    pub fn oracle_meets(&self, other: &Self) -> bool {
+        super::polygon::rings_meet(self.vertices(), other.vertices())
+    }
+}

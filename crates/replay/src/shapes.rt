@@ -1,0 +1,123 @@
+// The kinds of questions about a shape that is handed in.
+use crate::kinds;
+use crate::parts;
+use error::Refusal;
+use plane::Containment;
+use plane::PlanarPoint;
+
+fn place(c: Containment) -> usize {
+    match c {
+        Containment::Inside => 0,
+        Containment::OnBoundary => 1,
+        Containment::Outside => 2,
+    }
+}
+
+fn point_at(ps: &[f64], k: usize) -> PlanarPoint {
+    let rest = parts::numbers_from(ps, k, ps.len());
+    PlanarPoint {
+        east: ring::number_at(rest, 0),
+        north: ring::number_at(rest, 1),
+    }
+}
+
+// A point is in the two fields from k on.
+fn point_is(answer: &[u64], k: usize, p: PlanarPoint) -> bool {
+    let rest = parts::fields_from(answer, k, answer.len());
+    parts::float_is(rest, 0, p.east) & parts::float_is(rest, 1, p.north)
+}
+
+// The first field is the refusal's number.
+fn refusal_is(answer: &[u64], r: Refusal) -> bool {
+    parts::whole_is(answer, 0, r.number())
+}
+
+pub(crate) fn contains<'a>(answer: &'a [u64], words: &'a [u64], numbers: &'a [f64]) -> bool {
+    let n = parts::field_at(words, 0) as usize;
+    let shape = parts::numbers_from(numbers, 3, numbers.len());
+    let placed = queries::contains(shape, n, point_at(numbers, 1));
+    let refusal = placed.refusal;
+    let found = placed.place;
+    kinds::number_is(answer, 0, refusal)
+        & parts::whole_is(answer, 2, place(found))
+        & (answer.len() == 3)
+}
+
+// `distance_to_boundary` and `closest_boundary_point` answer the same, each its part.
+fn nearest_parts<'a>(answer: &'a [u64], shape: &'a [f64], n: usize, p: PlanarPoint) -> bool {
+    let far = queries::distance_to_boundary(shape, n, p);
+    let foot = queries::closest_boundary_point(shape, n, p);
+    let far_refusal = far.refusal;
+    let foot_refusal = foot.refusal;
+    let foot_point = foot.point;
+    kinds::number_is(answer, 0, far_refusal)
+        & kinds::number_is(answer, 0, foot_refusal)
+        & parts::float_is(answer, 2, far.value)
+        & point_is(answer, 3, foot_point)
+}
+
+pub(crate) fn nearest<'a>(answer: &'a [u64], words: &'a [u64], numbers: &'a [f64]) -> bool {
+    let n = parts::field_at(words, 0) as usize;
+    let shape = parts::numbers_from(numbers, 3, numbers.len());
+    let p = point_at(numbers, 1);
+    let near = queries::nearest(shape, n, p);
+    let refusal = near.refusal;
+    let foot = near.point;
+    kinds::number_is(answer, 0, refusal)
+        & parts::float_is(answer, 2, near.distance)
+        & point_is(answer, 3, foot)
+        & nearest_parts(answer, shape, n, p)
+        & (answer.len() == 5)
+}
+
+pub(crate) fn measures<'a>(answer: &'a [u64], words: &'a [u64], numbers: &'a [f64]) -> bool {
+    let n = parts::field_at(words, 0) as usize;
+    let shape = parts::numbers_from(numbers, 1, numbers.len());
+    let made = queries::area(shape, n);
+    let perimeter = queries::perimeter(shape, n);
+    let extent = queries::extent(shape, n);
+    let area = made.area;
+    let of_area = made.refusal;
+    let of_perimeter = perimeter.refusal;
+    let of_extent = extent.refusal;
+    refusal_is(answer, of_area)
+        & refusal_is(answer, of_perimeter)
+        & refusal_is(answer, of_extent)
+        & parts::float_is(answer, 1, area.value)
+        & parts::float_is(answer, 2, area.hectares())
+        & parts::float_is(answer, 3, perimeter.value)
+        & parts::float_is(answer, 4, extent.value)
+        & (answer.len() == 5)
+}
+
+// The numbers of the second shape begin where those of the first end.
+pub(crate) fn clearance<'a>(answer: &'a [u64], words: &'a [u64], numbers: &'a [f64]) -> bool {
+    let n = parts::field_at(words, 0) as usize;
+    let m = parts::field_at(words, 1) as usize;
+    let both = parts::numbers_from(numbers, 2, numbers.len());
+    let cut = parts::least(parts::twice(n), both.len());
+    let first = parts::numbers_from(both, 0, cut);
+    let second = parts::numbers_from(both, cut, both.len());
+    let gap = queries::clearance(first, n, second, m);
+    let refusal = gap.refusal;
+    refusal_is(answer, refusal) & parts::float_is(answer, 1, gap.value) & (answer.len() == 2)
+}
+
+pub(crate) fn edge<'a>(answer: &'a [u64], words: &'a [u64], numbers: &'a [f64]) -> bool {
+    let n = parts::field_at(words, 0) as usize;
+    let k = parts::field_at(words, 1) as usize;
+    let shape = parts::numbers_from(numbers, 2, numbers.len());
+    let edge = queries::edge(shape, n, k);
+    let vertex = queries::vertex(shape, n, k);
+    let of_edge = edge.refusal;
+    let of_vertex = vertex.refusal;
+    let start = edge.start;
+    let end = edge.end;
+    let at = vertex.point;
+    refusal_is(answer, of_edge)
+        & refusal_is(answer, of_vertex)
+        & point_is(answer, 1, start)
+        & point_is(answer, 3, end)
+        & point_is(answer, 1, at)
+        & (answer.len() == 5)
+}

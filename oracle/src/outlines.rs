@@ -1,0 +1,346 @@
+//! Questions about an outline and the reference's answers, one a line.
+//!
+//! A line has fields of 16 lower-case hexadecimal digits, parted by commas: the
+//! kind, how many fields of answer follow, the answer, and the question's
+//! fields to the end of the line. Whole numbers stand as themselves, floats by
+//! their bits; in an answer a zero has no sign.
+
+use std::fmt;
+
+use crate::answer::{bits, of_ring, points, Refusal, ROOM};
+use crate::error::{KernelError, NavigationError};
+use crate::region::{Area, Containment, PlanarPoint, Polygon};
+
+/// Largest coordinate of question 21.
+const MAX_COORDINATE: f64 = 1e9;
+
+/// An outline of the reference.
+pub type Outline = Polygon<ROOM>;
+
+/// A shape handed in: its numbers and how many vertices they are said to be.
+#[derive(Debug, Clone, PartialEq)]
+pub struct Shape {
+    /// Vertices.
+    pub count: u64,
+    /// East then north, any bits; from two a vertex on nothing is read.
+    pub numbers: Vec<f64>,
+}
+
+/// What is asked.
+#[derive(Debug, Clone, PartialEq)]
+pub enum Question {
+    /// The outline of these numbers.
+    Outline(Vec<f64>),
+    /// Where a point lies.
+    Contains(Shape, [f64; 2]),
+    /// The nearest point of the boundary, and its distance.
+    Nearest(Shape, [f64; 2]),
+    /// Area, perimeter and extent.
+    Measures(Shape),
+    /// The clearance of the second from the first.
+    Clearance(Shape, Shape),
+    /// Edge k.
+    Edge(Shape, u64),
+    /// Two points and the distance between them.
+    Point([f64; 2], [f64; 2]),
+    /// An area of so many square metres, and one of so many hectares.
+    Area(f64),
+}
+
+/// How many kinds of questions there are.
+pub const KINDS: usize = 8;
+
+/// Names of the kinds.
+pub const NAMES: [&str; KINDS] = [
+    "outline",
+    "contains",
+    "nearest",
+    "measures",
+    "clearance",
+    "edge",
+    "point",
+    "area",
+];
+
+impl Question {
+    /// The kind's number.
+    pub fn kind(&self) -> usize {
+        match self {
+            Self::Outline(_) => 0,
+            Self::Contains(..) => 1,
+            Self::Nearest(..) => 2,
+            Self::Measures(_) => 3,
+            Self::Clearance(..) => 4,
+            Self::Edge(..) => 5,
+            Self::Point(..) => 6,
+            Self::Area(_) => 7,
+        }
+    }
+
+    /// The question's fields.
+    pub fn fields(&self) -> Vec<u64> {
+        let raw = |numbers: &[f64]| -> Vec<u64> { numbers.iter().map(|x| x.to_bits()).collect() };
+        match self {
+            Self::Outline(numbers) => raw(numbers),
+            Self::Contains(shape, point) | Self::Nearest(shape, point) => {
+                [vec![shape.count], raw(point), raw(&shape.numbers)].concat()
+            }
+            Self::Measures(shape) => [vec![shape.count], raw(&shape.numbers)].concat(),
+            Self::Clearance(first, second) => [
+                vec![first.count, second.count],
+                raw(&first.numbers),
+                raw(&second.numbers),
+            ]
+            .concat(),
+            Self::Edge(shape, place) => [vec![shape.count, *place], raw(&shape.numbers)].concat(),
+            Self::Point(first, second) => [raw(first), raw(second)].concat(),
+            Self::Area(value) => raw(&[*value]),
+        }
+    }
+
+    /// The answer's fields.
+    pub fn answer(&self) -> Vec<u64> {
+        match self {
+            Self::Outline(numbers) => outline(numbers),
+            Self::Contains(shape, point) => contains(shape, *point),
+            Self::Nearest(shape, point) => nearest(shape, *point),
+            Self::Measures(shape) => measures(shape),
+            Self::Clearance(first, second) => clearance(first, second),
+            Self::Edge(shape, place) => edge(shape, *place),
+            Self::Point(first, second) => two_points(*first, *second),
+            Self::Area(value) => area(*value),
+        }
+    }
+
+    /// The line, without LF.
+    pub fn line(&self) -> String {
+        let answer = self.answer();
+        let fields = [
+            vec![self.kind() as u64, answer.len() as u64],
+            answer,
+            self.fields(),
+        ]
+        .concat();
+        let fields: Vec<String> = fields.iter().map(|field| format!("{field:016x}")).collect();
+        fields.join(",")
+    }
+}
+
+/// The outline that the reference makes of numbers: questions 1, 2 and 4 to 9.
+pub fn new_outline(numbers: &[f64]) -> Result<Outline, Refusal> {
+    Outline::new(&points(numbers)?).map_err(|error| of_ring(error).in_ring(0))
+}
+
+/// The stored vertices' numbers.
+pub fn numbers_of(outline: &Outline) -> Vec<f64> {
+    outline.vertices().iter().flat_map(|p| p.xy()).collect()
+}
+
+/// Number, ring, two whole numbers and the float; what is not carried reads 0.
+fn carried(refusal: Option<&Refusal>) -> [u64; 5] {
+    let Some(refusal) = refusal else {
+        return [0; 5];
+    };
+    let whole = |place: usize| refusal.wholes.get(place).map_or(0, |whole| *whole as u64);
+    [
+        u64::from(refusal.number),
+        refusal.ring.unwrap_or(0) as u64,
+        whole(0),
+        whole(1),
+        refusal.floats.first().map_or(0, |float| bits(*float)),
+    ]
+}
+
+/// What is carried, the count, the stored numbers.
+fn outline(numbers: &[f64]) -> Vec<u64> {
+    match new_outline(numbers) {
+        Err(refusal) => [carried(Some(&refusal)).to_vec(), vec![0]].concat(),
+        Ok(outline) => {
+            let count = outline.vertices().len() as u64;
+            let stored = numbers_of(&outline).into_iter().map(bits).collect();
+            [carried(None).to_vec(), vec![count], stored].concat()
+        }
+    }
+}
+
+/// Question 21, then the outline: the reference is asked on what its `new`
+/// gives, so the numbers have to be those of a stored outline.
+fn proper(shape: &Shape) -> Result<Outline, Refusal> {
+    let improper = Err(Refusal::of(21, &[], &[]));
+    if shape.count < 3 || shape.count > ROOM as u64 {
+        return improper;
+    }
+    let Some(numbers) = shape.numbers.get(..2 * shape.count as usize) else {
+        return improper;
+    };
+    if !numbers.iter().all(|x| x.abs() <= MAX_COORDINATE) {
+        return improper;
+    }
+    let outline = new_outline(numbers).expect("an outline");
+    assert_eq!(numbers_of(&outline), numbers, "as it is stored");
+    Ok(outline)
+}
+
+/// Question 2 of a point: east first.
+fn checked(point: [f64; 2]) -> Result<PlanarPoint, Refusal> {
+    PlanarPoint::from_metres(point[0], point[1]).map_err(|error| match error {
+        NavigationError::Kernel(KernelError::NotFinite {
+            parameter: "easting",
+            ..
+        }) => Refusal::of(2, &[0], &[]),
+        NavigationError::Kernel(KernelError::NotFinite {
+            parameter: "northing",
+            ..
+        }) => Refusal::of(2, &[1], &[]),
+        other => unreachable!("of a point: {other:?}"),
+    })
+}
+
+fn asked(shape: &Shape, point: [f64; 2]) -> Result<(Outline, PlanarPoint), Refusal> {
+    let outline = proper(shape)?;
+    Ok((outline, checked(point)?))
+}
+
+/// The number of a refusal, and its whole number.
+fn number_and_whole(refusal: Option<&Refusal>) -> [u64; 2] {
+    let [number, _, whole, ..] = carried(refusal);
+    [number, whole]
+}
+
+fn contains(shape: &Shape, point: [f64; 2]) -> Vec<u64> {
+    let asked = asked(shape, point);
+    let [number, whole] = number_and_whole(asked.as_ref().err());
+    let place = asked.map_or(Containment::Outside, |(outline, p)| outline.contains(p));
+    let place = match place {
+        Containment::Inside => 0,
+        Containment::OnBoundary => 1,
+        Containment::Outside => 2,
+    };
+    vec![number, whole, place]
+}
+
+fn nearest(shape: &Shape, point: [f64; 2]) -> Vec<u64> {
+    let asked = asked(shape, point);
+    let [number, whole] = number_and_whole(asked.as_ref().err());
+    let (distance, foot) = asked.map_or((0.0, [0.0; 2]), |(outline, p)| {
+        (
+            outline.distance_to_boundary(p).metres(),
+            outline.closest_boundary_point(p).xy(),
+        )
+    });
+    vec![number, whole, bits(distance), bits(foot[0]), bits(foot[1])]
+}
+
+fn measures(shape: &Shape) -> Vec<u64> {
+    match proper(shape) {
+        Err(refusal) => vec![u64::from(refusal.number), 0, 0, 0, 0],
+        Ok(outline) => vec![
+            0,
+            bits(outline.area().square_metres()),
+            bits(outline.area().hectares()),
+            bits(outline.perimeter().metres()),
+            bits(outline.oracle_extent()),
+        ],
+    }
+}
+
+/// The least gap over the second's vertices against the first's edges, 0 if
+/// the rings meet; an infinite one reads 0.
+fn clearance(first: &Shape, second: &Shape) -> Vec<u64> {
+    let outlines = proper(first).and_then(|first| Ok((first, proper(second)?)));
+    match outlines {
+        Err(refusal) => vec![u64::from(refusal.number), 0],
+        Ok((first, second)) => {
+            let mut least = f64::INFINITY;
+            for vertex in second.vertices() {
+                let gap = first.oracle_gap(*vertex);
+                if gap < least {
+                    least = gap;
+                }
+            }
+            let free = least.is_finite() && !second.oracle_meets(&first);
+            vec![0, if free { bits(least) } else { 0 }]
+        }
+    }
+}
+
+/// Edge k; from the last on, (0, 0) twice.
+fn edge(shape: &Shape, place: u64) -> Vec<u64> {
+    let ends = |outline: Outline| {
+        let edge = outline.edges().nth(usize::try_from(place).ok()?);
+        edge.map(|(start, end)| [start.xy(), end.xy()].concat())
+    };
+    let (number, ends) = match proper(shape) {
+        Err(refusal) => (u64::from(refusal.number), None),
+        Ok(outline) => (0, ends(outline)),
+    };
+    let ends = ends.unwrap_or(vec![0.0; 4]).into_iter().map(bits);
+    [vec![number], ends.collect()].concat()
+}
+
+fn two_points(first: [f64; 2], second: [f64; 2]) -> Vec<u64> {
+    let (first, second) = (checked(first), checked(second));
+    let distance = match (&first, &second) {
+        (Ok(first), Ok(second)) => first.distance_to(*second).metres(),
+        _ => 0.0,
+    };
+    [
+        &number_and_whole(first.as_ref().err())[..],
+        &number_and_whole(second.as_ref().err())[..],
+        &[bits(distance)],
+    ]
+    .concat()
+}
+
+/// Of each of the two: number, the float carried, value, hectares.
+fn area(value: f64) -> Vec<u64> {
+    let told = |area: Result<Area, NavigationError>| {
+        let refusal = area.as_ref().err().map(|error| match error {
+            NavigationError::Kernel(KernelError::NotFinite { .. }) => Refusal::of(2, &[0], &[]),
+            NavigationError::Kernel(KernelError::OutOfRange { value, .. }) => {
+                Refusal::of(14, &[], &[*value])
+            }
+            other => unreachable!("of an area: {other:?}"),
+        });
+        let [number, _, _, _, float] = carried(refusal.as_ref());
+        let area = area.unwrap_or(Area::ZERO);
+        [
+            number,
+            float,
+            bits(area.square_metres()),
+            bits(area.hectares()),
+        ]
+    };
+    [
+        told(Area::from_square_metres(value)),
+        told(Area::from_hectares(value)),
+    ]
+    .concat()
+}
+
+/// How often each kind, and each number within it.
+#[derive(Debug, Clone, Default)]
+pub struct Tally {
+    /// By kind and number; 0 is granted.
+    pub numbers: [[usize; 23]; KINDS],
+}
+
+impl Tally {
+    /// Counts one question.
+    pub fn add(&mut self, question: &Question) {
+        self.numbers[question.kind()][question.answer()[0] as usize] += 1;
+    }
+}
+
+impl fmt::Display for Tally {
+    fn fmt(&self, f: &mut fmt::Formatter<'_>) -> fmt::Result {
+        for (name, numbers) in NAMES.iter().zip(&self.numbers) {
+            write!(f, "{name} {}:", numbers.iter().sum::<usize>())?;
+            for (number, count) in numbers.iter().enumerate().filter(|(_, count)| **count > 0) {
+                write!(f, " {number}×{count}")?;
+            }
+            writeln!(f)?;
+        }
+        Ok(())
+    }
+}

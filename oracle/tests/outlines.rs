@@ -1,0 +1,437 @@
+//! Questions about outlines and their answers.
+
+use std::collections::BTreeMap;
+
+use oracle::generate::question;
+use oracle::outlines::{Question, Shape, Tally, KINDS, NAMES};
+
+const S: &[[f64; 2]] = &[[0.0, 0.0], [4.0, 0.0], [4.0, 4.0], [0.0, 4.0]];
+
+fn numbers(ring: &[[f64; 2]]) -> Vec<f64> {
+    ring.iter().flatten().copied().collect()
+}
+
+fn outline(ring: &[[f64; 2]]) -> Vec<u64> {
+    Question::Outline(numbers(ring)).answer()
+}
+
+fn granted(ring: &[[f64; 2]]) -> Vec<u64> {
+    let stored = numbers(ring).into_iter().map(f64::to_bits);
+    let mut answer = vec![0, 0, 0, 0, 0, ring.len() as u64];
+    answer.extend(stored);
+    answer
+}
+
+fn shape(ring: &[[f64; 2]]) -> Shape {
+    Shape {
+        count: ring.len() as u64,
+        numbers: numbers(ring),
+    }
+}
+
+#[test]
+fn e1_few() {
+    assert_eq!(outline(&[]), [4, 0, 0, 0, 0, 0]);
+    assert_eq!(outline(&[[1.0, 2.0], [1.0, 2.0]]), [4, 0, 1, 0, 0, 0]);
+}
+
+#[test]
+fn e2_closed_e3_clockwise() {
+    assert_eq!(outline(&[S[0], S[1], S[2], S[3], S[0]]), granted(S));
+    assert_eq!(outline(&[S[0], S[3], S[2], S[1]]), granted(S));
+}
+
+#[test]
+fn e4_flat_e5_e6_crossed() {
+    let flat = [[0.0, 0.0], [1.0, 0.0], [2.0, 0.0]];
+    assert_eq!(outline(&flat), [8, 0, 0, 0, 0, 0]);
+    let crossed = [[0.0, 0.0], [4.0, 4.0], [4.0, 0.0], [0.0, 2.0]];
+    assert_eq!(outline(&crossed), [9, 0, 0, 2, 0, 0]);
+    let folded = [[0.0, 0.0], [4.0, 0.0], [4.0, 4.0], [4.0, 2.0], [0.0, 2.0]];
+    assert_eq!(outline(&folded), [9, 0, 1, 2, 0, 0]);
+    // Walked backwards: edge k is edge n − 1 − k.
+    let back = [folded[0], folded[4], folded[3], folded[2], folded[1]];
+    assert_eq!(outline(&back), [9, 0, 2, 3, 0, 0]);
+}
+
+#[test]
+fn e7_containment() {
+    let place = |point| Question::Contains(shape(S), point).answer();
+    assert_eq!(place([2.0, 2.0]), [0, 0, 0]);
+    assert_eq!(place([4.0, 2.0]), [0, 0, 1]);
+    assert_eq!(place([5.0, 2.0]), [0, 0, 2]);
+    assert_eq!(place([f64::NAN, f64::NAN]), [2, 0, 2]);
+    assert_eq!(place([5.0, f64::INFINITY]), [2, 1, 2]);
+}
+
+#[test]
+fn e12_range() {
+    let above = f64::from_bits(1e9_f64.to_bits() + 1);
+    let ring = [[0.0, 0.0], [1e9, 0.0], [0.0, 1e9]];
+    assert_eq!(outline(&ring), granted(&ring));
+    let past = [[0.0, 0.0], [1e9, 0.0], [0.0, above]];
+    assert_eq!(outline(&past), [5, 0, 0, 0, above.to_bits(), 0]);
+}
+
+#[test]
+fn the_square() {
+    let answer = |question: Question| question.answer();
+    let float = f64::to_bits;
+    assert_eq!(answer(Question::Outline(vec![1.0])), [1, 0, 0, 0, 0, 0]);
+    assert_eq!(
+        answer(Question::Outline(vec![1.0, f64::NAN])),
+        [2, 0, 1, 0, 0, 0]
+    );
+    assert_eq!(
+        answer(Question::Nearest(shape(S), [5.0, 2.0])),
+        [0, 0, float(1.0), float(4.0), float(2.0)]
+    );
+    assert_eq!(
+        answer(Question::Nearest(shape(S), [f64::MAX, f64::MAX])),
+        [0, 0, 0, float(f64::MAX), float(f64::MAX)]
+    );
+    assert_eq!(
+        answer(Question::Measures(shape(S))),
+        [0, float(16.0), float(0.0016), float(16.0), float(4.0)]
+    );
+    let beside = [[6.0, 0.0], [8.0, 0.0], [8.0, 1.0]];
+    assert_eq!(
+        answer(Question::Clearance(shape(S), shape(&beside))),
+        [0, float(2.0)]
+    );
+    let touching = [[4.0, 1.0], [8.0, 0.0], [8.0, 1.0]];
+    assert_eq!(
+        answer(Question::Clearance(shape(S), shape(&touching))),
+        [0, 0]
+    );
+    assert_eq!(
+        answer(Question::Edge(shape(S), 3)),
+        [0, 0, float(4.0), 0, 0]
+    );
+    assert_eq!(answer(Question::Edge(shape(S), 4)), [0; 5]);
+    assert_eq!(answer(Question::Edge(shape(&S[..2]), 0)), [21, 0, 0, 0, 0]);
+    assert_eq!(
+        answer(Question::Point([0.0, 0.0], [3.0, 4.0])),
+        [0, 0, 0, 0, float(5.0)]
+    );
+    assert_eq!(
+        answer(Question::Area(1.0)),
+        [
+            0,
+            0,
+            float(1.0),
+            float(0.0001),
+            0,
+            0,
+            float(1e4),
+            float(1.0)
+        ]
+    );
+    assert_eq!(
+        answer(Question::Area(-1.0)),
+        [14, float(-1.0), 0, 0, 14, float(-1e4), 0, 0]
+    );
+    assert_eq!(
+        answer(Question::Area(1e305)),
+        [0, 0, float(1e305), float(1e305 / 1e4), 2, 0, 0, 0]
+    );
+}
+
+#[test]
+fn a_line() {
+    let line = Question::Point([0.0, -0.0], [3.0, 4.0]).line();
+    assert_eq!(line, "0000000000000006,0000000000000005,0000000000000000,0000000000000000,0000000000000000,0000000000000000,4014000000000000,0000000000000000,8000000000000000,4008000000000000,4010000000000000");
+}
+
+/// The stored list: 700 questions of each of the seeds 1, 2 and 3.
+fn stored_list() -> impl Iterator<Item = Question> {
+    (1..=3).flat_map(|seed| (0..700).map(move |index| question(seed, index)))
+}
+
+#[test]
+fn the_stored_list_reaches_every_number() {
+    let mut tally = Tally::default();
+    for question in stored_list() {
+        tally.add(&question);
+    }
+    let reached: [&[usize]; KINDS] = [
+        &[0, 1, 2, 4, 5, 6, 7, 8, 9],
+        &[0, 2, 21],
+        &[0, 2, 21],
+        &[0, 21],
+        &[0, 21],
+        &[0, 21],
+        &[0, 2],
+        &[0, 2, 14],
+    ];
+    for (kind, numbers) in tally.numbers.iter().enumerate() {
+        for (number, count) in numbers.iter().enumerate() {
+            let reached = reached[kind].contains(&number);
+            assert_eq!(*count > 0, reached, "kind {kind}, number {number}");
+        }
+    }
+}
+
+/// Named cases, and how often each was met.
+#[derive(Default)]
+struct Cases(BTreeMap<&'static str, usize>);
+
+impl Cases {
+    fn add(&mut self, tests: Vec<(&'static str, bool)>) {
+        for (name, met) in tests {
+            *self.0.entry(name).or_default() += usize::from(met);
+        }
+    }
+
+    fn missed(&self) -> Vec<&'static str> {
+        let missed = self.0.iter().filter(|case| *case.1 == 0);
+        missed.map(|case| *case.0).collect()
+    }
+}
+
+/// What an outline's question and answer are an instance of.
+fn outline_cases(numbers: &[f64], answer: &[u64]) -> Vec<(&'static str, bool)> {
+    let above = f64::from_bits(1e9_f64.to_bits() + 1);
+    let ring: Vec<&[f64]> = numbers.chunks_exact(2).collect();
+    let number = answer[0];
+    let (first, last) = (ring.first(), ring.last());
+    let closed = ring.len() > 1 && first == last;
+    let twice = closed && ring.len() > 2 && ring[ring.len() - 2] == ring[0];
+    let stored = answer.get(8..10);
+    let given = ring.get(1).map(|p| [p[0].to_bits(), p[1].to_bits()]);
+    let same = stored == given.as_ref().map(|p| &p[..]);
+    let bad = |k: usize| ring.get(k).is_some_and(|p| p.iter().any(|x| x.abs() > 1e9));
+    let about = |k: usize, axis: usize| ring[k % ring.len()][axis] - ring[0][axis];
+    let twice_area: f64 = (0..ring.len())
+        .map(|k| about(k, 0) * about(k + 1, 1) - about(k, 1) * about(k + 1, 0))
+        .sum();
+    let range = |x: f64| numbers.contains(&x);
+    vec![
+        ("no vertices", ring.is_empty()),
+        ("1 vertex", ring.len() == 1),
+        ("2 vertices", ring.len() == 2),
+        ("3 vertices", ring.len() == 3 && number == 0),
+        ("127 vertices", answer[5] == 127),
+        ("128 vertices", answer[5] == 128),
+        ("128 vertices, closed", answer[5] == 128 && closed),
+        ("129 vertices", number == 6 && answer[2..4] == [129, 128]),
+        ("130 vertices", number == 6 && answer[2..4] == [130, 128]),
+        ("a bad vertex 129", number == 5 && bad(128)),
+        ("a bad vertex 130", number == 6 && bad(129)),
+        ("found 0", number == 4 && answer[2] == 0),
+        ("found 1", number == 4 && answer[2] == 1),
+        ("found 2", number == 4 && answer[2] == 2),
+        ("counter-clockwise", number == 0 && same),
+        ("clockwise", number == 0 && !same),
+        ("closed once", number == 0 && closed),
+        ("closed twice", number == 7 && twice),
+        (
+            "a zero with a sign",
+            number == 0 && numbers.iter().any(|x| x.to_bits() == 1 << 63),
+        ),
+        (
+            "zeros of both signs, one point",
+            number == 7 && numbers.iter().any(|x| x.to_bits() == 1 << 63),
+        ),
+        ("the largest coordinate", number == 0 && range(1e9)),
+        ("the least coordinate", number == 0 && range(-1e9)),
+        (
+            "the next above",
+            number == 5 && answer[4] == above.to_bits(),
+        ),
+        (
+            "the next below",
+            number == 5 && answer[4] == (-above).to_bits(),
+        ),
+        ("neighbours meet", number == 9 && answer[3] == answer[2] + 1),
+        (
+            "first and last meet",
+            number == 9 && answer[2] == 0 && answer[3] as usize == ring.len() - 1,
+        ),
+        (
+            "crossed, counter-clockwise",
+            number == 9 && twice_area > 0.0,
+        ),
+        ("crossed, clockwise", number == 9 && twice_area < 0.0),
+        ("edges apart meet", number == 9 && answer[3] > answer[2] + 1),
+        (
+            "far from the origin",
+            number == 0 && numbers.iter().all(|x| x.abs() > 1e7),
+        ),
+        (
+            "odd and not finite",
+            number == 1 && numbers.iter().any(|x| !x.is_finite()),
+        ),
+    ]
+}
+
+#[test]
+fn the_stored_list_reaches_every_case_of_an_outline() {
+    let mut cases = Cases::default();
+    let (mut least, mut most) = (f64::INFINITY, 0.0_f64);
+    for question in stored_list() {
+        let Question::Outline(numbers) = &question else {
+            continue;
+        };
+        let answer = question.answer();
+        cases.add(outline_cases(numbers, &answer));
+        // Triangles of the family about the relative bound.
+        if numbers.len() == 6 && [0, 8].contains(&answer[0]) {
+            let [a, b, c] = [0, 2, 4].map(|k| [numbers[k], numbers[k + 1]]);
+            let area = ((b[0] - a[0]) * (c[1] - a[1]) - (b[1] - a[1]) * (c[0] - a[0])).abs() / 2.0;
+            let wide = |k: usize| a[k].max(b[k]).max(c[k]) - a[k].min(b[k]).min(c[k]);
+            let part = area / (wide(0) * wide(0) + wide(1) * wide(1)) / 1e-12;
+            if answer[0] == 0 {
+                least = least.min(part);
+            } else {
+                most = most.max(part);
+            }
+        }
+    }
+    assert_eq!(cases.missed(), [""; 0]);
+    assert!(least < 1.01 && most > 0.99, "{least} {most}");
+}
+
+/// What a question about a shape or numbers, and its answer, are an instance of.
+fn other_cases(question: &Question, answer: &[u64]) -> Vec<(&'static str, bool)> {
+    let far = |p: &[f64; 2]| p.iter().any(|x| x.abs() >= 1e150);
+    let subnormal = |p: &[f64; 2]| p.iter().any(|x| x.is_subnormal());
+    let on_vertex = |shape: &Shape, p: &[f64; 2]| shape.numbers.chunks_exact(2).any(|v| v == p);
+    let level = |shape: &Shape, p: &[f64; 2]| {
+        let mut vertices = shape.numbers.chunks_exact(2);
+        vertices.any(|v| v[1] == p[1] && v[0] != p[0])
+    };
+    match question {
+        Question::Outline(_) => vec![],
+        Question::Contains(shape, p) => vec![
+            ("inside", answer[2] == 0),
+            ("on the boundary", answer[2] == 1),
+            ("outside", answer[0] == 0 && answer[2] == 2),
+            ("on a vertex", answer[2] == 1 && on_vertex(shape, p)),
+            (
+                "level with a vertex, inside",
+                answer[2] == 0 && level(shape, p),
+            ),
+            (
+                "level with a vertex, outside",
+                answer[0] == 0 && answer[2] == 2 && level(shape, p),
+            ),
+            ("far, contained or not", answer[0] == 0 && far(p)),
+            ("a subnormal point", answer[0] == 0 && subnormal(p)),
+            ("east not finite", answer[..2] == [2, 0]),
+            ("north not finite", answer[..2] == [2, 1]),
+            (
+                "21 before 2",
+                answer[0] == 21 && p.iter().any(|x| !x.is_finite()),
+            ),
+            (
+                "numbers past the vertices",
+                answer[0] == 0 && shape.numbers.len() as u64 > 2 * shape.count,
+            ),
+            (
+                "too few numbers",
+                answer[0] == 21 && (shape.numbers.len() as u64) < shape.count.saturating_mul(2),
+            ),
+            ("2 vertices", answer[0] == 21 && shape.count == 2),
+            ("129 vertices", answer[0] == 21 && shape.count == 129),
+        ],
+        Question::Nearest(shape, p) => vec![
+            (
+                "a distance of 0",
+                answer[0] == 0 && answer[2] == 0 && !far(p),
+            ),
+            (
+                "an infinite distance",
+                answer[0] == 0 && answer[2] == 0 && far(p),
+            ),
+            ("a large distance", answer[2] > 1e150_f64.to_bits()),
+            ("a subnormal distance", answer[2] > 0 && answer[2] < 1 << 52),
+            (
+                "the foot on a vertex",
+                answer[0] == 0 && on_vertex(shape, &[3, 4].map(|k| f64::from_bits(answer[k]))),
+            ),
+            ("nearest, not finite", answer[0] == 2),
+        ],
+        Question::Measures(shape) => vec![
+            ("measures of 128", answer[0] == 0 && shape.count >= 127),
+            ("measures of 3", answer[0] == 0 && shape.count == 3),
+        ],
+        Question::Clearance(first, second) => vec![
+            ("clear", answer[1] > 0),
+            ("not clear", answer[0] == 0 && answer[1] == 0),
+            ("the first improper", answer[0] == 21 && second.count >= 3),
+            (
+                "the second improper",
+                answer[0] == 21
+                    && first.numbers.len() as u64 == first.count.wrapping_mul(2)
+                    && first.numbers.iter().all(|x| x.abs() <= 1e9),
+            ),
+        ],
+        Question::Edge(shape, place) => vec![
+            ("the last edge", answer[0] == 0 && *place + 1 == shape.count),
+            (
+                "past the last edge",
+                answer[0] == 0 && *place >= shape.count,
+            ),
+            ("the largest place", answer[0] == 0 && *place == u64::MAX),
+        ],
+        Question::Point(p, q) => vec![
+            ("apart", answer[4] > 0),
+            (
+                "infinitely far",
+                answer[0] == 0 && answer[2] == 0 && answer[4] == 0 && p != q,
+            ),
+            ("first point's east", answer[..2] == [2, 0]),
+            ("first point's north", answer[..2] == [2, 1]),
+            ("second point", answer[2] == 2 && answer[0] == 0),
+        ],
+        Question::Area(_) => vec![
+            ("no area", answer[..] == [0; 8]),
+            ("negative, carried", answer[0] == 14 && answer[1] != 0),
+            ("only hectares refused", answer[0] == 0 && answer[4] == 2),
+            ("an area not finite", answer[0] == 2),
+        ],
+    }
+}
+
+#[test]
+fn the_stored_list_reaches_every_case_of_the_rest() {
+    let mut cases = Cases::default();
+    for question in stored_list() {
+        cases.add(other_cases(&question, &question.answer()));
+    }
+    assert_eq!(cases.missed(), [""; 0]);
+}
+
+/// A file of the program that reads the list.
+fn of_replay(name: &str) -> String {
+    let path = format!("{}/../crates/replay/{name}", env!("CARGO_MANIFEST_DIR"));
+    std::fs::read_to_string(path).expect("a file of the program")
+}
+
+#[test]
+fn the_stored_list_is_what_the_replay_reads() {
+    let list: String = stored_list().map(|asked| asked.line() + "\n").collect();
+    assert!(list == of_replay("stdin"), "tools/outlines makes it again");
+}
+
+#[test]
+fn the_replay_is_to_count_the_stored_list() {
+    let mut counts = [0; KINDS];
+    for question in stored_list() {
+        counts[question.kind()] += 1;
+    }
+    let total: usize = counts.iter().sum();
+    let rows = NAMES.into_iter().zip(counts);
+    let rows = rows.chain([("unread", 0), ("total", total)]);
+    let rows = rows.map(|(name, count)| format!("{name} {count} compared, 0 differ\n"));
+    assert_eq!(rows.collect::<String>(), of_replay("stdout"));
+}
+
+#[test]
+fn the_stored_list_fits_the_replay() {
+    for question in stored_list() {
+        let fields = 2 + question.answer().len() + question.fields().len();
+        assert!(fields <= 704, "{fields}");
+    }
+}
