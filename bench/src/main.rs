@@ -1,6 +1,7 @@
-//! `bench`: nanoseconds a call of our `hypot` beside the C library's. `bench test`: compares ours with an exact one.
+//! `bench`: nanoseconds a call of our `hypot` beside the C library's, and of the questions about outlines beside the Rust's. `bench test`: compares our `hypot` with an exact one.
 mod cases;
 mod exact;
+mod outlines;
 
 use cases::{Pair, Random};
 use std::hint::black_box;
@@ -78,7 +79,11 @@ fn compare() -> usize {
 
 fn main() {
     match std::env::args().nth(1).as_deref() {
-        None => measure(),
+        None => {
+            measure();
+            println!();
+            outlines::measure();
+        }
         Some("test") => {
             let n = compare();
             println!("{n} differences");

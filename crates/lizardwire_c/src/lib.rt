@@ -1,6 +1,120 @@
-// Functions for C and for Rust. Each is a call of a proved function, with its contract.
+// Functions for C and for Rust, over numbers and slices. Each is a call of a proved function, with its contract.
 ghost use mathlib.Core.Path.{_≡_};
+ghost use lib.ListN.{length};
 ghost use Rattle.hypotenuse.specs.Hypot;
+ghost use Rattle.polygon.specs.Outlines;
+ghost use Rattle.queries.specs.Queries;
+ghost use Rattle.lizardwire_c.specs.Exports;
+use plane::Containment;
+use plane::PlanarPoint;
+use polygon::NewOutline;
+use polygon::Outline;
+use queries::Neared;
+use queries::Placed;
+use values::Carried;
+
+// What the check of an outline answers: the refusal's number, 0 where granted, what it carries, and the vertices written.
+#[repr(C)]
+pub struct LwOutline {
+    pub refusal: usize,
+    pub ring: usize,
+    pub first: usize,
+    pub second: usize,
+    pub value: f64,
+    pub count: usize,
+}
+
+// Where a point lies: 0 inside, 1 on the boundary, 2 outside. `first` is the index that 2 carries.
+#[repr(C)]
+pub struct LwPlace {
+    pub refusal: usize,
+    pub first: usize,
+    pub place: usize,
+}
+
+// The nearest point of a boundary, and its distance.
+#[repr(C)]
+pub struct LwNearest {
+    pub refusal: usize,
+    pub first: usize,
+    pub distance: f64,
+    pub east: f64,
+    pub north: f64,
+}
+
+// How many vertices so many numbers are; an odd count is none.
+pub fn vertices(numbers: usize) -> usize
+    ensures { λ r. ⌜ r ≡ Exports.vertices numbers ⌝ }
+{
+    ring::choose(numbers % 2 == 0, numbers / 2, 0)
+}
+
+pub fn place_number(c: Containment) -> usize
+    ensures { λ r. ⌜ r ≡ Exports.place-number c ⌝ }
+{
+    match c {
+        Containment::Inside => 0,
+        Containment::OnBoundary => 1,
+        Containment::Outside => 2,
+    }
+}
+
+pub fn told_place(a: Placed) -> LwPlace
+    ensures { λ r. ⌜ r ≡ Exports.told-place a ⌝ }
+{
+    let refusal = a.refusal;
+    let place = a.place;
+    let c = Carried::new(refusal);
+    LwPlace {
+        refusal: c.question,
+        first: c.first,
+        place: place_number(place),
+    }
+}
+
+pub fn told_nearest(a: Neared) -> LwNearest
+    ensures { λ r. ⌜ r ≡ Exports.told-nearest a ⌝ }
+{
+    let refusal = a.refusal;
+    let point = a.point;
+    let c = Carried::new(refusal);
+    LwNearest {
+        refusal: c.question,
+        first: c.first,
+        distance: a.distance,
+        east: point.east,
+        north: point.north,
+    }
+}
+
+pub fn outline_answer(c: Carried, count: usize) -> LwOutline
+    ensures { λ r. ⌜ r ≡ Exports.outline-answer c count ⌝ }
+{
+    LwOutline {
+        refusal: c.question,
+        ring: c.ring,
+        first: c.first,
+        second: c.second,
+        value: c.value,
+        count: count,
+    }
+}
+
+// An outline to lent output, if there is one.
+pub fn told_outline(o: NewOutline, out: &mut [f64]) -> LwOutline
+    ensures answered { λ r. ⌜ r ≡ Exports.told-outline o (now (out .entry)) ⌝ }
+    ensures written { λ _. ⌜ now (out .exit) ≡ Exports.over-outline o (now (out .entry)) ⌝ }
+{
+    let refusal = o.refusal;
+    if refusal.granted() {
+        let shape = o.shape;
+        let count = shape.count;
+        let r = lent::write_outline(&shape.points, count, out);
+        outline_answer(Carried::new(r), ring::choose(r.granted(), count, 0))
+    } else {
+        outline_answer(Carried::new(refusal), 0)
+    }
+}
 
 // math::hypot.
 #[no_mangle]
@@ -8,4 +122,37 @@ pub extern "C" fn lw_hypot(x: f64, y: f64) -> f64
     ensures { λ r. ⌜ r ≡ Hypot.hypot x y ⌝ }
 {
     math::hypot(x, y)
+}
+
+// The outline of these numbers, written to `out`: questions 1, 2 and 4 to 9, then 20.
+#[no_mangle]
+pub extern "C" fn lw_outline(numbers: &[f64], out: &mut [f64]) -> LwOutline
+    ensures answered { λ r. ⌜ r ≡ Exports.told-outline (Outlines.outline (now (numbers .entry))) (now (out .entry)) ⌝ }
+    ensures written { λ _. ⌜ now (out .exit) ≡ Exports.over-outline (Outlines.outline (now (numbers .entry))) (now (out .entry)) ⌝ }
+{
+    told_outline(Outline::new(numbers), out)
+}
+
+// Where a point lies in an outline handed in: 21, then 2 of the point.
+#[no_mangle]
+pub extern "C" fn lw_contains(outline: &[f64], east: f64, north: f64) -> LwPlace
+    ensures { λ r. ⌜ r ≡ Exports.told-place (Queries.contains (now (outline .entry)) (Exports.vertices (length (now (outline .entry)))) (record { east = east; north = north })) ⌝ }
+{
+    let p = PlanarPoint {
+        east: east,
+        north: north,
+    };
+    told_place(queries::contains(outline, vertices(outline.len()), p))
+}
+
+// The nearest point of the boundary of an outline handed in: 21, then 2 of the point.
+#[no_mangle]
+pub extern "C" fn lw_nearest(outline: &[f64], east: f64, north: f64) -> LwNearest
+    ensures { λ r. ⌜ r ≡ Exports.told-nearest (Queries.nearest (now (outline .entry)) (Exports.vertices (length (now (outline .entry)))) (record { east = east; north = north })) ⌝ }
+{
+    let p = PlanarPoint {
+        east: east,
+        north: north,
+    };
+    told_nearest(queries::nearest(outline, vertices(outline.len()), p))
 }

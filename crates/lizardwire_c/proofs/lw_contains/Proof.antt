@@ -1,0 +1,21 @@
+-- `lizardwire_c::lw_contains` meets its contract. Assumes nothing.
+use Rattle.lizardwire_c.specs.Exports
+use borrow.Author.Needs.{needs}
+use Rattle.lizardwire_c.proofs.lw_contains.Statement.{statement}
+use Rattle.lizardwire_c.proofs.lw_contains.Tie as tie
+
+vertices-requires : tie.Need-vertices-requires
+vertices-requires c κs = search needs
+
+contains-requires : tie.Need-contains-requires
+contains-requires c κs = search needs
+
+told-place-requires : tie.Need-told-place-requires
+told-place-requires c κs = search needs
+
+returns : tie.Need-returns
+returns c = simp (c .told-place .ensures, c .before .contains .ensures, c .before .before .vertices .ensures)
+
+pub lw-contains-spec : {M : Type 1} → statement M
+lw-contains-spec =
+    tie.close (tie.spec vertices-requires contains-requires told-place-requires returns)

@@ -1,0 +1,65 @@
+-- What the functions for C answer: a refusal's number and what it carries as plain numbers, beside the value. Assumes nothing.
+use Prim.Native.Nat.{ℕ, _/_, _%_}
+use mathlib.Core.Bool.{Bool, cond}
+use mathlib.Core.List.{List}
+use lib.Dec.{eqb}
+use lib.ListN.{length}
+use lib.Ieee.{Float}
+use Rattle.error.specs.declared.Refusal.{Refusal}
+use Rattle.error.specs.Refusals.{granted}
+use Rattle.values.specs.declared.Carried.{Carried}
+use Rattle.values.specs.Carries.{carried}
+use Rattle.plane.specs.declared.PlanarPoint.{PlanarPoint}
+use Rattle.plane.specs.declared.Containment.{Containment}
+use Rattle.plane.specs.declared.Containment.the-variants.{Inside, OnBoundary, Outside}
+use Rattle.polygon.specs.declared.NewOutline.{NewOutline}
+use Rattle.polygon.specs.Outlines.{outline}
+use Rattle.lent.specs.Writes.{ring-write, written-ring}
+use Rattle.queries.specs.declared.Placed.{Placed}
+use Rattle.queries.specs.declared.Neared.{Neared}
+use Rattle.queries.specs.Queries.{contains, nearest}
+use Rattle.lizardwire_c.specs.declared.LwOutline.{LwOutline}
+use Rattle.lizardwire_c.specs.declared.LwPlace.{LwPlace}
+use Rattle.lizardwire_c.specs.declared.LwNearest.{LwNearest}
+
+-- how many vertices the numbers of a shape handed in are; none where their count is odd, which 21 then refuses
+unfoldable pub vertices : ℕ → ℕ
+vertices l = cond (eqb (l % 2) 0) (l / 2) 0
+
+-- ---- the check of an outline, whose stored ring is written to lent output
+
+unfoldable pub outline-answer : Carried → ℕ → LwOutline
+outline-answer c n = record { refusal = c .question; ring = c .ring; first = c .first; second = c .second; value = c .value; count = n }
+
+unfoldable pub outline-told : NewOutline → List Float → Refusal
+outline-told o out = cond (granted (o .refusal)) (ring-write (o .shape .points) (o .shape .count) out) (o .refusal)
+
+unfoldable pub told-outline : NewOutline → List Float → LwOutline
+told-outline o out = outline-answer (carried (outline-told o out)) (cond (granted (outline-told o out)) (o .shape .count) 0)
+
+unfoldable pub over-outline : NewOutline → List Float → List Float
+over-outline o out = cond (granted (o .refusal)) (written-ring (o .shape .points) (o .shape .count) out) out
+
+-- ---- questions about an outline handed in
+
+unfoldable pub place-number : Containment → ℕ
+place-number Inside = 0
+place-number OnBoundary = 1
+place-number Outside = 2
+
+unfoldable pub place-answer : Carried → Containment → LwPlace
+place-answer c p = record { refusal = c .question; first = c .first; place = place-number p }
+
+unfoldable pub told-place : Placed → LwPlace
+told-place a = place-answer (carried (a .refusal)) (a .place)
+
+unfoldable pub nearest-answer : Carried → Float → PlanarPoint → LwNearest
+nearest-answer c d p = record { refusal = c .question; first = c .first; distance = d; east = p .east; north = p .north }
+
+unfoldable pub told-nearest : Neared → LwNearest
+told-nearest a = nearest-answer (carried (a .refusal)) (a .distance) (a .point)
+
+-- opens every definition above, for a proof that computes with all of them
+unfoldable pub open-exports : Unit {0}
+unfolding vertices outline-answer outline-told told-outline over-outline place-number place-answer told-place nearest-answer told-nearest
+open-exports = tt
