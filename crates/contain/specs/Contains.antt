@@ -1,6 +1,6 @@
 -- polygon.rs, `ring_contains`: where a point lies. Assumes nothing.
 use Prim.Native.Nat.{ℕ}
-use mathlib.Core.Bool.{Bool, cond, _&&_}
+use mathlib.Core.Bool.{Bool, cond, _&&_, _||_}
 use mathlib.Core.List.{List}
 use lib.Ieee.{Float, lt, unlike}
 use Rattle.plane.specs.declared.Containment.{Containment}
@@ -39,7 +39,17 @@ contains-step ps n p k s = unless-on s (contains-edge p (vertex-at ps k) (edge-e
 unfoldable pub ring-contains : List Float → ℕ → PlanarPoint → Containment
 ring-contains ps n p = rounds (contains-step ps n p) n Outside
 
+-- ---- the walk of the code, which leaves out the edges that lie north or south of p
+
+-- p is south of both ends of an edge, or north of both, by their norths
+unfoldable pub beside : Float → Float → Float → Bool
+beside a b p = (lt p a && lt p b) || (lt a p && lt b p)
+
+-- the step at the edge k, whose ends have the norths a and b: one that p is beside is left out
+unfoldable pub step-between : List Float → ℕ → PlanarPoint → ℕ → Float → Float → Containment → Containment
+step-between ps n p k a b s = cond (beside a b (p .north)) s (contains-step ps n p k s)
+
 -- opens every definition above, for a proof that computes with all of them
 unfoldable pub open-contains : Unit {0}
-unfolding unless-on flipped passes contains-edge contains-step ring-contains
+unfolding unless-on flipped passes contains-edge contains-step ring-contains beside step-between
 open-contains = tt

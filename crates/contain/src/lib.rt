@@ -60,13 +60,44 @@ pub fn contains_step(ps: &[f64], n: usize, p: PlanarPoint, k: usize, s: Containm
     unless_on(s, contains_edge(p, a, b, s))
 }
 
+// Whether a point of the north p is south of both ends of an edge, or north of both: a and b are their norths.
+pub fn beside(a: f64, b: f64, p: f64) -> bool
+    ensures { λ r. ⌜ r ≡ Contains.beside a b p ⌝ }
+{
+    ((p < a) & (p < b)) | ((a < p) & (b < p))
+}
+
+// The step at the edge k, whose ends have the norths a and b. An edge that p is beside is left out.
+pub fn step_between(
+    ps: &[f64],
+    n: usize,
+    p: PlanarPoint,
+    k: usize,
+    a: f64,
+    b: f64,
+    s: Containment,
+) -> Containment
+    ensures { λ r. ⌜ r ≡ Contains.step-between (now (ps .entry)) n p k a b s ⌝ }
+{
+    if beside(a, b, p.north) {
+        s
+    } else {
+        contains_step(ps, n, p, k, s)
+    }
+}
+
 pub fn ring_contains(ps: &[f64], n: usize, p: PlanarPoint) -> Containment
     ensures { λ r. ⌜ r ≡ Contains.ring-contains (now (ps .entry)) n p ⌝ }
 {
+    let first = ring::vertex_at(ps, 0);
+    let mut a = first.north;
     let mut s = Containment::Outside;
     let mut k = 0;
     while k < n {
-        s = contains_step(ps, n, p, k, s);
+        let end = ring::edge_end(ps, n, k);
+        let b = end.north;
+        s = step_between(ps, n, p, k, a, b, s);
+        a = b;
         k += 1;
     }
     s

@@ -1,6 +1,5 @@
 // The nearest point of a boundary.
 ghost use mathlib.Core.Path.{_≡_};
-ghost use mathlib.Core.Bool.{cond};
 ghost use Rattle.near.specs.Near;
 use plane::PlanarPoint;
 
@@ -10,51 +9,103 @@ pub struct Nearest {
     pub foot: PlanarPoint,
 }
 
-// a where the test holds, else b.
-pub fn choose(test: bool, a: Nearest, b: Nearest) -> Nearest
-    ensures { λ r. ⌜ r ≡ cond test a b ⌝ }
-{
-    if test { a } else { b }
+// The nearest foot so far, the vector to it from the point, and the vector's squared length as computed.
+pub struct Lead {
+    pub offset: PlanarPoint,
+    pub square: f64,
+    pub foot: PlanarPoint,
 }
 
-pub fn nearer(candidate: Nearest, best: Nearest) -> Nearest
-    ensures { λ r. ⌜ r ≡ Near.nearer candidate best ⌝ }
+// Of two squared lengths as computed, w is clearly the larger: by more than what rounding can do.
+pub fn clearly(v: f64, w: f64) -> bool
+    ensures { λ r. ⌜ r ≡ Near.clearly v w ⌝ }
 {
-    choose(candidate.gap < best.gap, candidate, best)
+    (1.0009765625 * v < w) & (9.332636185032189e-302 < w)
 }
 
-pub fn gap_to(p: PlanarPoint, q: PlanarPoint) -> Nearest
-    ensures { λ r. ⌜ r ≡ Near.gap-to p q ⌝ }
+pub fn lead_to(p: PlanarPoint, q: PlanarPoint) -> Lead
+    ensures { λ r. ⌜ r ≡ Near.lead-to p q ⌝ }
 {
-    let gap = plane::length_of(plane::sub(q, p));
-    Nearest { gap: gap, foot: q }
+    let offset = plane::sub(q, p);
+    Lead {
+        offset: offset,
+        square: plane::dot(offset, offset),
+        foot: q,
+    }
 }
 
-pub fn nearest_step(ps: &[f64], n: usize, p: PlanarPoint, k: usize, best: Nearest) -> Nearest
-    ensures { λ r. ⌜ r ≡ Near.nearest-step (now (ps .entry)) n p k best ⌝ }
-{
-    let a = ring::vertex_at(ps, k);
-    let b = ring::edge_end(ps, n, k);
-    nearer(gap_to(p, segment::closest_on_segment(p, a, b)), best)
-}
-
-pub fn none_yet(p: PlanarPoint) -> Nearest
-    ensures { λ r. ⌜ r ≡ Near.none-yet p ⌝ }
+// Before the first edge: p itself, infinitely far.
+pub fn no_lead(p: PlanarPoint) -> Lead
+    ensures { λ r. ⌜ r ≡ Near.no-lead p ⌝ }
 {
     let top = math::infinity();
-    Nearest { gap: top, foot: p }
+    Lead {
+        offset: PlanarPoint {
+            east: top,
+            north: 0.0,
+        },
+        square: top,
+        foot: p,
+    }
+}
+
+// The candidate where its root is the smaller. Equal vectors need no roots.
+pub fn closer(candidate: Lead, best: Lead) -> Lead
+    ensures { λ r. ⌜ r ≡ Near.closer candidate best ⌝ }
+{
+    if plane::same(candidate.offset, best.offset) {
+        return best;
+    }
+    let gap = plane::length_of(candidate.offset);
+    let least = plane::length_of(best.offset);
+    if gap < least { candidate } else { best }
+}
+
+// The candidate where it is nearer. Roots are taken only where the squares do not tell.
+pub fn leader(candidate: Lead, best: Lead) -> Lead
+    ensures { λ r. ⌜ r ≡ Near.leader candidate best ⌝ }
+{
+    if clearly(best.square, candidate.square) {
+        return best;
+    }
+    if clearly(candidate.square, best.square) {
+        return candidate;
+    }
+    closer(candidate, best)
+}
+
+// The lead after the edge ab.
+pub fn lead_between(p: PlanarPoint, a: PlanarPoint, b: PlanarPoint, best: Lead) -> Lead
+    ensures { λ r. ⌜ r ≡ Near.lead-between p a b best ⌝ }
+{
+    leader(lead_to(p, segment::closest_on_segment(p, a, b)), best)
+}
+
+// What a lead stands for.
+pub fn reached(s: Lead) -> Nearest
+    ensures { λ r. ⌜ r ≡ Near.reached s ⌝ }
+{
+    let gap = plane::length_of(s.offset);
+    let foot = s.foot;
+    Nearest {
+        gap: gap,
+        foot: foot,
+    }
 }
 
 pub fn nearest_to(ps: &[f64], n: usize, p: PlanarPoint) -> Nearest
     ensures { λ r. ⌜ r ≡ Near.nearest (now (ps .entry)) n p ⌝ }
 {
-    let mut s = none_yet(p);
+    let mut a = ring::vertex_at(ps, 0);
+    let mut s = no_lead(p);
     let mut k = 0;
     while k < n {
-        s = nearest_step(ps, n, p, k, s);
+        let b = ring::edge_end(ps, n, k);
+        s = lead_between(p, a, b, s);
+        a = b;
         k += 1;
     }
-    s
+    reached(s)
 }
 
 pub fn clearance_step<'a>(ps: &'a [f64], n: usize, qs: &'a [f64], k: usize, s: f64) -> f64

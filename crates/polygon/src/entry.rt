@@ -1,33 +1,26 @@
 // What comes in from outside: questions 1 and 2 of numbers, and 21 of a shape.
 ghost use mathlib.Core.Path.{_≡_};
 ghost use Prim.Native.Nat.{_≤_};
+ghost use lib.Ieee.{le};
+ghost use Rattle.math.specs.Number.{abs};
+ghost use Rattle.ringcheck.specs.Checks.{max-coordinate};
 ghost use Rattle.polygon.specs.Outlines;
 use super::NewOutline;
 use super::store;
 use error::Refusal;
 
-pub fn finite_step(ps: &[f64], k: usize, r: Refusal) -> Refusal
-    ensures { λ x. ⌜ x ≡ Outlines.finite-step (now (ps .entry)) k r ⌝ }
-{
-    let here = error::choose(
-        math::finite(ring::number_at(ps, k)),
-        Refusal::Granted,
-        Refusal::NotFinite(k),
-    );
-    error::choose(r.granted(), here, r)
-}
-
 // Question 2: the first number that is not finite.
 pub fn check_finite(ps: &[f64]) -> Refusal
     ensures { λ r. ⌜ r ≡ Outlines.check-finite (now (ps .entry)) ⌝ }
 {
-    let mut s = Refusal::Granted;
     let mut k = 0;
     while k < ps.len() {
-        s = finite_step(ps, k, s);
+        if !math::finite(ring::number_at(ps, k)) {
+            return Refusal::NotFinite(k);
+        }
         k += 1;
     }
-    s
+    Refusal::Granted
 }
 
 pub fn outline_if(ps: &[f64], r: Refusal) -> NewOutline
@@ -40,16 +33,27 @@ pub fn outline_if(ps: &[f64], r: Refusal) -> NewOutline
     }
 }
 
+// Whether a number is at most the largest coordinate, without its sign.
+pub fn in_reach(x: f64) -> bool
+    ensures { λ r. ⌜ r ≡ le (abs x) max-coordinate ⌝ }
+{
+    (-ringcheck::MAX_COORDINATE <= x) & (x <= ringcheck::MAX_COORDINATE)
+}
+
 pub fn in_range_step(ps: &[f64], k: usize, s: bool) -> bool
     ensures { λ r. ⌜ r ≡ Outlines.in-range-step (now (ps .entry)) k s ⌝ }
 {
-    s & (math::abs(ring::number_at(ps, k)) <= ringcheck::MAX_COORDINATE)
+    s & in_reach(ring::number_at(ps, k))
 }
 
+// A number past the end is not in range.
 pub(crate) fn in_range(ps: &[f64], n: usize) -> bool
     requires { ⌜ n ≤ 4096 ⌝ }
     ensures { λ r. ⌜ r ≡ Outlines.in-range (now (ps .entry)) n ⌝ }
 {
+    if ps.len() < 2 * n {
+        return false;
+    }
     let mut s = true;
     let mut k = 0;
     while k < 2 * n {

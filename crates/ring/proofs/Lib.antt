@@ -1,2 +1,3 @@
 pub mod Choices
 pub mod Vertices
+pub mod Starts

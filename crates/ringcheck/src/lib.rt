@@ -2,6 +2,7 @@
 ghost use mathlib.Core.Path.{_≡_};
 ghost use mathlib.Core.Bool.{cond};
 ghost use Rattle.ringcheck.specs.Checks;
+ghost use Rattle.ringcheck.specs.Walks;
 use error::Refusal;
 use plane::PlanarPoint;
 use simple::Crossing;
@@ -36,7 +37,7 @@ pub fn kept(ps: &[f64], n: usize) -> usize
 pub fn beyond(x: f64) -> bool
     ensures { λ r. ⌜ r ≡ Checks.beyond x ⌝ }
 {
-    MAX_COORDINATE < math::abs(x)
+    (MAX_COORDINATE < x) | (x < -MAX_COORDINATE)
 }
 
 // Range, east then north, then room.
@@ -48,44 +49,40 @@ pub fn vertex_refusal(room: usize, index: usize, n: usize, k: usize, v: PlanarPo
     error::choose(beyond(v.east), Refusal::Range(index, v.east), north)
 }
 
-pub fn range_step(room: usize, index: usize, ps: &[f64], n: usize, k: usize, r: Refusal) -> Refusal
-    ensures { λ x. ⌜ x ≡ Checks.range-step room index (now (ps .entry)) n k r ⌝ }
+// Whether nothing is refused of vertex k.
+pub fn passes(room: usize, k: usize, v: PlanarPoint) -> bool
+    ensures { λ r. ⌜ r ≡ Walks.passes room k v ⌝ }
 {
-    let here = vertex_refusal(room, index, n, k, ring::vertex_at(ps, k));
-    error::choose(r.granted(), here, r)
+    (k < room) & !(beyond(v.east) | beyond(v.north))
 }
 
+// The first vertex that does not pass is refused.
 pub fn check_range(room: usize, index: usize, ps: &[f64], n: usize) -> Refusal
     ensures { λ r. ⌜ r ≡ Checks.check-range room index (now (ps .entry)) n ⌝ }
 {
-    let mut s = Refusal::Granted;
     let mut k = 0;
     while k < n {
-        s = range_step(room, index, ps, n, k, s);
+        let v = ring::vertex_at(ps, k);
+        if !passes(room, k, v) {
+            return vertex_refusal(room, index, n, k, v);
+        }
         k += 1;
     }
-    s
-}
-
-pub fn repeat_step(ps: &[f64], n: usize, k: usize, s: bool) -> bool
-    ensures { λ r. ⌜ r ≡ Checks.repeat-step (now (ps .entry)) n k s ⌝ }
-{
-    let a = ring::vertex_at(ps, k);
-    let b = ring::edge_end(ps, n, k);
-    s | plane::same(a, b)
+    Refusal::Granted
 }
 
 // Whether two neighbours are equal.
 pub fn repeats(ps: &[f64], n: usize) -> bool
     ensures { λ r. ⌜ r ≡ Checks.repeats (now (ps .entry)) n ⌝ }
 {
-    let mut s = false;
     let mut k = 0;
     while k < n {
-        s = repeat_step(ps, n, k, s);
+        if plane::same(ring::vertex_at(ps, k), ring::edge_end(ps, n, k)) {
+            return true;
+        }
         k += 1;
     }
-    s
+    false
 }
 
 // Whether the area is nothing beside the square of the span s.

@@ -1,6 +1,7 @@
 // Whether a ring is simple: two nested walks over its edges, left at the first pair that crosses or touches.
 ghost use mathlib.Core.Path.{_≡_};
-ghost use Prim.Native.Nat.{_<_};
+ghost use Rattle.segment.specs.Segments;
+ghost use Rattle.boxes.specs.Quick;
 ghost use Rattle.simple.specs.Simple;
 use plane::PlanarPoint;
 
@@ -10,55 +11,66 @@ pub enum Crossing {
     Edges(usize, usize),
 }
 
-// Whether edges i and j, i below j, of n cross or touch, given their ends.
-pub(crate) fn crossing_by(
-    n: usize,
-    i: usize,
-    j: usize,
+// Whether two segments meet, a's box and the cross products of b's ends from a given.
+pub(crate) fn segments_meet(
     a1: PlanarPoint,
     a2: PlanarPoint,
+    l: PlanarPoint,
+    h: PlanarPoint,
     b1: PlanarPoint,
     b2: PlanarPoint,
+    d: f64,
+    e: f64,
 ) -> bool
-    requires { ⌜ (i < j) × (j < n) ⌝ }
-    ensures { λ r. ⌜ r ≡ Simple.crossing-by n i j a1 a2 b1 b2 ⌝ }
+    requires { ⌜ (l ≡ Quick.low a1 a2) × ((h ≡ Quick.high a1 a2) × ((d ≡ Segments.orient a1 a2 b1) × (e ≡ Segments.orient a1 a2 b2))) ⌝ }
+    ensures { λ r. ⌜ r ≡ Segments.segments-meet a1 a2 b1 b2 ⌝ }
 {
-    if j == i + 1 {
-        return segment::folds_back(a2, a1, b2);
-    }
-    if (i == 0) & (j == n - 1) {
-        return segment::folds_back(a1, a2, b1);
+    if boxes::clear(d, e, l, h, b1, b2) {
+        return false;
     }
     segment::segments_meet(a1, a2, b1, b2)
 }
 
-pub(crate) fn edges_cross(ps: &[f64], n: usize, back: bool, i: usize, j: usize) -> bool
-    requires { ⌜ (i < j) × (j < n) ⌝ }
-    ensures { λ r. ⌜ r ≡ Simple.crossing (now (ps .entry)) n back i j ⌝ }
-{
-    let a1 = ring::stored_at(ps, n, back, i);
-    let a2 = ring::stored_at(ps, n, back, ring::following(n, i));
-    let b1 = ring::stored_at(ps, n, back, j);
-    let b2 = ring::stored_at(ps, n, back, ring::following(n, j));
-    crossing_by(n, i, j, a1, a2, b1, b2)
-}
-
+// Edge i and the next are neighbours, and so are the first edge and the last; the pairs between are walked with their common values kept.
 pub fn check_simple(ps: &[f64], n: usize, back: bool) -> Crossing
     ensures { λ r. ⌜ r ≡ Simple.check-simple (now (ps .entry)) n back ⌝ }
 {
     let mut found = Crossing::Simple;
     let mut i = 0;
-    'pairs: while i < n {
-        let mut k = 0;
-        while k < n - (i + 1) {
+    'pairs: while i < ring::less(n, 1) {
+        let a1 = ring::stored_at(ps, n, back, i);
+        let a2 = ring::stored_at(ps, n, back, ring::following(n, i));
+        let mut b1 = ring::stored_at(ps, n, back, ring::following(n, i + 1));
+        if segment::folds_back(a2, a1, b1) {
+            found = Crossing::Edges(i, i + 1);
+            break 'pairs;
+        }
+        let l = boxes::low(a1, a2);
+        let h = boxes::high(a1, a2);
+        let row = n - (i + 1);
+        let stop = ring::choose(i == 0, row - 1, row);
+        let mut d = segment::orient(a1, a2, b1);
+        let mut k = 1;
+        while k < stop {
             let j = i + 1 + k;
-            if edges_cross(ps, n, back, i, j) {
+            let b2 = ring::stored_at(ps, n, back, ring::following(n, j));
+            let e = segment::orient(a1, a2, b2);
+            if segments_meet(a1, a2, l, h, b1, b2, d, e) {
                 found = Crossing::Edges(i, j);
                 break 'pairs;
             }
+            b1 = b2;
+            d = e;
             k += 1;
         }
+        let at = i;
         i += 1;
+        if k < row {
+            if segment::folds_back(a1, a2, b1) {
+                found = Crossing::Edges(at, at + 1 + k);
+                break 'pairs;
+            }
+        }
     }
     found
 }

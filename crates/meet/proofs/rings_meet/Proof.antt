@@ -1,25 +1,35 @@
 -- `meet::rings_meet` meets its contract. Assumes nothing.
 use borrow.Author.Needs.{needs}
 use Prim.Native.Nat.{ℕ, _-_, _≤_}
-use mathlib.Core.Path.{_≡_, sym, ap, _∙_}
-use Rattle.loops.specs.Loop.{rounds}
-use Rattle.loops.proofs.Laws.{no-round, goes-on, ends}
-use Rattle.meet.specs.Meet
+use mathlib.Core.Path.{_≡_, sym}
 use mathlib.Core.Bool.{false}
+use Rattle.loops.specs.Loop.{rounds}
+use Rattle.loops.proofs.Laws.{no-round}
+use Rattle.meet.specs.Meet.{rings-meet-step}
+use Rattle.meet.proofs.Meetings.{edge-met, ring-met-at, ring-not-met, ring-none-met}
 use Rattle.meet.proofs.rings_meet.Statement.{statement}
 use Rattle.meet.proofs.rings_meet.Tie as tie
 
 abbrev Inv-loop : tie.InvT-loop
-Inv-loop ps n qs m s₀ k₀ s k = (k ≤ n) × (s ≡ rounds (Meet.rings-meet-step ps n qs m) k false)
+Inv-loop ps n qs m k₀ k = (k ≤ n) × (rounds (rings-meet-step ps n qs m) k false ≡ false)
 
 abbrev μ-loop : tie.MeasureT-loop
-μ-loop ps n qs m s₀ k₀ s k = n - k
+μ-loop ps n qs m k₀ k = n - k
 
 loop-holds : tie.Need-loop-holds Inv-loop μ-loop
-loop-holds c = (search needs, sym (no-round _ _))
+loop-holds c = (search needs, no-round _ _)
 
-rings-meet-step-requires : tie.Need-rings-meet-step-requires Inv-loop μ-loop
-rings-meet-step-requires c κs = search needs
+vertex-at-requires : tie.Need-vertex-at-requires Inv-loop μ-loop
+vertex-at-requires c κs = search needs
+
+edge-end-requires : tie.Need-edge-end-requires Inv-loop μ-loop
+edge-end-requires c κs = search needs
+
+meets-edge-requires : tie.Need-meets-edge-requires Inv-loop μ-loop
+meets-edge-requires c κs = search needs
+
+returns : tie.Need-returns Inv-loop μ-loop
+returns c = sym (ring-met-at _ _ _ _ _ (c .before .before .before .before .before .loop .inv .1) (c .before .before .before .before .loop-test .taken) (edge-met _ _ _ _ _ _ _ (c .before .before .before .vertex-at .ensures) (c .before .before .edge-end .ensures) (c .before .meets-edge .ensures) (c .if1 .taken)))
 
 add-k : tie.Need-add-k Inv-loop μ-loop
 add-k c = search needs
@@ -28,11 +38,10 @@ loop-less : tie.Need-loop-less Inv-loop μ-loop
 loop-less c = search needs
 
 loop-again : tie.Need-loop-again Inv-loop μ-loop
-loop-again c = (search needs, goes-on _ _ _ _ _ (c .before .before .loop .inv .1) (c .rings-meet-step .ensures))
+loop-again c = (search needs, ring-not-met _ _ _ _ _ (c .before .before .before .before .before .loop .inv .1) (edge-met _ _ _ _ _ _ _ (c .before .before .before .vertex-at .ensures) (c .before .before .edge-end .ensures) (c .before .meets-edge .ensures) (c .if1 .left)))
 
-returns : tie.Need-returns Inv-loop μ-loop
-unfolding Meet.rings-meet
-returns c = ends _ _ _ _ _ (c .before .loop .inv .0) (c .loop-test .left) (c .before .loop .inv .1)
+returns-2 : tie.Need-returns-2 Inv-loop μ-loop
+returns-2 c = sym (ring-none-met _ _ _ _ _ (c .before .loop .inv .0) (c .loop-test .left) (c .before .loop .inv .1))
 
 pub rings-meet-spec : {M : Type 1} → statement M
 rings-meet-spec =
@@ -41,8 +50,11 @@ rings-meet-spec =
     Inv-loop
     μ-loop
     loop-holds
-    rings-meet-step-requires
+    vertex-at-requires
+    edge-end-requires
+    meets-edge-requires
+    returns
     add-k
     loop-less
     loop-again
-    returns)
+    returns-2)

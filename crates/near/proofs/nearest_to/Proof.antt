@@ -5,23 +5,31 @@ use mathlib.Core.Path.{_≡_, sym, ap, _∙_}
 use Rattle.loops.specs.Loop.{rounds}
 use Rattle.loops.proofs.Laws.{no-round, goes-on, ends}
 use Rattle.near.specs.Near
+use Rattle.ring.proofs.Starts.{start, start-first, start-next}
+use Rattle.near.proofs.Leads.{step-is, walk-ends}
 use Rattle.near.proofs.nearest_to.Statement.{statement}
 use Rattle.near.proofs.nearest_to.Tie as tie
 
 abbrev Inv-loop : tie.InvT-loop
-Inv-loop ps n p s₀ k₀ s k = (k ≤ n) × (s ≡ rounds (Near.nearest-step ps n p) k (Near.none-yet p))
+Inv-loop ps n p a₀ s₀ k₀ a s k = (k ≤ n) × (a ≡ start ps n k) × (s ≡ rounds (Near.lead-step ps n p) k (Near.no-lead p))
 
 abbrev μ-loop : tie.MeasureT-loop
-μ-loop ps n p s₀ k₀ s k = n - k
+μ-loop ps n p a₀ s₀ k₀ a s k = n - k
 
-none-yet-requires : tie.Need-none-yet-requires Inv-loop μ-loop
-none-yet-requires c κs = search needs
+vertex-at-requires : tie.Need-vertex-at-requires Inv-loop μ-loop
+vertex-at-requires c κs = search needs
+
+no-lead-requires : tie.Need-no-lead-requires Inv-loop μ-loop
+no-lead-requires c κs = search needs
 
 loop-holds : tie.Need-loop-holds Inv-loop μ-loop
-loop-holds c = (search needs, c .none-yet .ensures ∙ sym (no-round _ _))
+loop-holds c = (search needs, c .before .vertex-at .ensures ∙ start-first _ _, c .no-lead .ensures ∙ sym (no-round _ _))
 
-nearest-step-requires : tie.Need-nearest-step-requires Inv-loop μ-loop
-nearest-step-requires c κs = search needs
+edge-end-requires : tie.Need-edge-end-requires Inv-loop μ-loop
+edge-end-requires c κs = search needs
+
+lead-between-requires : tie.Need-lead-between-requires Inv-loop μ-loop
+lead-between-requires c κs = search needs
 
 add-k : tie.Need-add-k Inv-loop μ-loop
 add-k c = search needs
@@ -30,11 +38,19 @@ loop-less : tie.Need-loop-less Inv-loop μ-loop
 loop-less c = search needs
 
 loop-again : tie.Need-loop-again Inv-loop μ-loop
-loop-again c = (search needs, goes-on _ _ _ _ _ (c .before .before .loop .inv .1) (c .nearest-step .ensures))
+loop-again c = (
+  search needs,
+  c .before .edge-end .ensures ∙ start-next _ _ _,
+  goes-on _ _ _ _ _ (c .before .before .before .loop .inv .2)
+      (step-is _ _ _ _ _ _ _ _ (c .before .before .loop-test .taken) (c .before .before .before .loop .inv .1) (c .before .edge-end .ensures) (c .lead-between .ensures)),
+)
+
+reached-requires : tie.Need-reached-requires Inv-loop μ-loop
+reached-requires c κs = search needs
 
 returns : tie.Need-returns Inv-loop μ-loop
-unfolding Near.nearest
-returns c = ends _ _ _ _ _ (c .before .loop .inv .0) (c .loop-test .left) (c .before .loop .inv .1)
+returns c =
+    c .reached .ensures ∙ ap Near.reached (ends _ _ _ _ _ (c .before .before .loop .inv .0) (c .before .loop-test .left) (c .before .before .loop .inv .2)) ∙ walk-ends _ _ _
 
 pub nearest-to-spec : {M : Type 1} → statement M
 nearest-to-spec =
@@ -42,10 +58,13 @@ nearest-to-spec =
     (tie.spec
     Inv-loop
     μ-loop
-    none-yet-requires
+    vertex-at-requires
+    no-lead-requires
     loop-holds
-    nearest-step-requires
+    edge-end-requires
+    lead-between-requires
     add-k
     loop-less
     loop-again
+    reached-requires
     returns)

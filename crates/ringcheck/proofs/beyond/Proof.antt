@@ -1,15 +1,11 @@
 -- `ringcheck::beyond` meets its contract. Assumes nothing.
-use Rattle.ringcheck.specs.Checks
+use Rattle.ringcheck.proofs.Exits.{beyond-is}
 use borrow.Author.Needs.{needs}
 use Rattle.ringcheck.proofs.beyond.Statement.{statement}
 use Rattle.ringcheck.proofs.beyond.Tie as tie
 
-abs-requires : tie.Need-abs-requires
-abs-requires c κs = search needs
-
 returns : tie.Need-returns
-unfolding Checks.beyond
-returns c = cc
+returns c = beyond-is _
 
 pub beyond-spec : {M : Type 1} → statement M
-beyond-spec = tie.close (tie.spec abs-requires returns)
+beyond-spec = tie.close (tie.spec returns)

@@ -1,25 +1,35 @@
 -- `ringcheck::check_range` meets its contract. Assumes nothing.
-use borrow.Author.Needs.{needs}
 use Prim.Native.Nat.{ℕ, _-_, _≤_}
-use mathlib.Core.Path.{_≡_, sym, ap, _∙_}
+use mathlib.Core.Path.{_≡_, sym}
 use Rattle.loops.specs.Loop.{rounds}
-use Rattle.loops.proofs.Laws.{no-round, goes-on, ends}
-use Rattle.ringcheck.specs.Checks
+use Rattle.loops.proofs.Laws.{no-round, ends}
 use Rattle.error.specs.declared.Refusal.the-variants.{Granted}
+use Rattle.ringcheck.specs.Checks
+use Rattle.ringcheck.proofs.Exits.{range-goes-on, range-refused}
+use borrow.Author.Needs.{needs}
 use Rattle.ringcheck.proofs.check_range.Statement.{statement}
 use Rattle.ringcheck.proofs.check_range.Tie as tie
 
 abbrev Inv-loop : tie.InvT-loop
-Inv-loop room index ps n s₀ k₀ s k = (k ≤ n) × (s ≡ rounds (Checks.range-step room index ps n) k Granted)
+Inv-loop room index ps n k₀ k = (k ≤ n) × (rounds (Checks.range-step room index ps n) k Granted ≡ Granted)
 
 abbrev μ-loop : tie.MeasureT-loop
-μ-loop room index ps n s₀ k₀ s k = n - k
+μ-loop room index ps n k₀ k = n - k
 
 loop-holds : tie.Need-loop-holds Inv-loop μ-loop
-loop-holds c = (search needs, sym (no-round _ _))
+loop-holds c = (search needs, no-round _ _)
 
-range-step-requires : tie.Need-range-step-requires Inv-loop μ-loop
-range-step-requires c κs = search needs
+vertex-at-requires : tie.Need-vertex-at-requires Inv-loop μ-loop
+vertex-at-requires c κs = search needs
+
+passes-requires : tie.Need-passes-requires Inv-loop μ-loop
+passes-requires c κs = search needs
+
+vertex-refusal-requires : tie.Need-vertex-refusal-requires Inv-loop μ-loop
+vertex-refusal-requires c κs = search needs
+
+returns : tie.Need-returns Inv-loop μ-loop
+returns c = range-refused _ _ _ _ _ _ (c .before .before .before .vertex-at .ensures) (c .before .before .before .before .before .loop .inv .1) _ _ (search needs) (c .before .before .passes .ensures) (c .before .if1 .taken) (c .vertex-refusal .ensures)
 
 add-k : tie.Need-add-k Inv-loop μ-loop
 add-k c = search needs
@@ -28,13 +38,24 @@ loop-less : tie.Need-loop-less Inv-loop μ-loop
 loop-less c = search needs
 
 loop-again : tie.Need-loop-again Inv-loop μ-loop
-loop-again c = (search needs, goes-on _ _ _ _ _ (c .before .before .loop .inv .1) (c .range-step .ensures))
+loop-again c = (search needs, range-goes-on _ _ _ _ _ _ (c .before .before .vertex-at .ensures) (c .before .before .before .before .loop .inv .1) _ (c .before .passes .ensures) (c .if1 .left))
 
-returns : tie.Need-returns Inv-loop μ-loop
+returns-2 : tie.Need-returns-2 Inv-loop μ-loop
 unfolding Checks.check-range
-returns c = ends _ _ _ _ _ (c .before .loop .inv .0) (c .loop-test .left) (c .before .loop .inv .1)
+returns-2 c = ends _ _ _ _ _ (c .before .loop .inv .0) (c .loop-test .left) (sym (c .before .loop .inv .1))
 
 pub check-range-spec : {M : Type 1} → statement M
 check-range-spec =
     tie.close
-    (tie.spec Inv-loop μ-loop loop-holds range-step-requires add-k loop-less loop-again returns)
+    (tie.spec
+    Inv-loop
+    μ-loop
+    loop-holds
+    vertex-at-requires
+    passes-requires
+    vertex-refusal-requires
+    returns
+    add-k
+    loop-less
+    loop-again
+    returns-2)

@@ -1,39 +1,85 @@
 -- `simple::check_simple` meets its contract. Assumes nothing.
-use borrow.Author.Needs.{needs}
 use Prim.Native.Nat.{ℕ, _≤_, _<_, _+_, _-_}
-use mathlib.Core.Path.{_≡_, refl, sym, _∙_}
-use native.Mathlib.Omega.{arith}
+use mathlib.Core.Path.{_≡_, refl, ap, _∙_}
 use Rattle.loops.specs.Loop.{rounds}
 use Rattle.loops.proofs.Laws.{no-round}
+use Rattle.ring.specs.Ring.{stored-at}
 use Rattle.simple.specs.declared.Crossing.the-variants.{Simple}
-use Rattle.simple.specs.Simple.{pair-step, edge-step, check-simple}
-use Rattle.simple.proofs.Pairs.{pair-none, row-found, row-none, found-at}
+use Rattle.simple.specs.Simple.{edge-step}
+use Rattle.simple.proofs.Pairs.{Row, row-begins, row-goes-on, row-closes, row-ends, row-none, none-found, found-next, found-far, found-last}
+use borrow.Author.Needs.{needs}
 use Rattle.simple.proofs.check_simple.Statement.{statement}
 use Rattle.simple.proofs.check_simple.Tie as tie
 
 abbrev Inv-loop : tie.InvT-loop
-Inv-loop ps n back found₀ i k₀ found k = (k ≤ n - (i + 1)) × (found ≡ Simple) × (rounds (pair-step ps n back i) k Simple ≡ Simple)
+Inv-loop ps n back found₀ i a1 a2 b1₀ l h row stop d₀ k₀ found b1 d k = (n < 18446744073709551616) × (i + 1 < n) × (k ≤ n - (i + 1)) × (stop ≤ n - (i + 1)) × (found ≡ Simple) × Row ps n back i a1 a2 l h stop k b1 d
 
 abbrev μ-loop : tie.MeasureT-loop
-μ-loop ps n back found₀ i k₀ found k = n - k
+μ-loop ps n back found₀ i a1 a2 b1₀ l h row stop d₀ k₀ found b1 d k = n - k
 
 abbrev Inv-pairs : tie.InvT-pairs
-Inv-pairs ps n back found₀ i₀ found i = (i ≤ n) × (found ≡ Simple) × (rounds (edge-step ps n back) i Simple ≡ Simple)
+Inv-pairs ps n back found₀ i₀ found i = (n < 18446744073709551616) × (i ≤ n - 1) × (found ≡ Simple) × (rounds (edge-step ps n back) i Simple ≡ Simple)
 
 abbrev μ-pairs : tie.MeasureT-pairs
 μ-pairs ps n back found₀ i₀ found i = n - i
 
 pairs-holds : tie.Need-pairs-holds Inv-loop μ-loop Inv-pairs μ-pairs
-pairs-holds c = (search needs, refl, no-round _ _)
+pairs-holds c = (search needs, search needs, refl, no-round _ _)
+
+less-requires : tie.Need-less-requires Inv-loop μ-loop Inv-pairs μ-pairs
+less-requires c κs = search needs
+
+stored-at-requires : tie.Need-stored-at-requires Inv-loop μ-loop Inv-pairs μ-pairs
+stored-at-requires c κs = search needs
+
+following-requires : tie.Need-following-requires Inv-loop μ-loop Inv-pairs μ-pairs
+following-requires c κs = search needs
+
+stored-at-requires-2 : tie.Need-stored-at-requires-2 Inv-loop μ-loop Inv-pairs μ-pairs
+stored-at-requires-2 c κs = search needs
+
+add-following : tie.Need-add-following Inv-loop μ-loop Inv-pairs μ-pairs
+add-following c = search needs
+
+following-requires-2 : tie.Need-following-requires-2 Inv-loop μ-loop Inv-pairs μ-pairs
+following-requires-2 c κs = search needs
+
+stored-at-requires-3 : tie.Need-stored-at-requires-3 Inv-loop μ-loop Inv-pairs μ-pairs
+stored-at-requires-3 c κs = search needs
+
+folds-back-requires : tie.Need-folds-back-requires Inv-loop μ-loop Inv-pairs μ-pairs
+folds-back-requires c κs = search needs
+
+add-t23 : tie.Need-add-t23 Inv-loop μ-loop Inv-pairs μ-pairs
+add-t23 c = search needs
+
+low-requires : tie.Need-low-requires Inv-loop μ-loop Inv-pairs μ-pairs
+low-requires c κs = search needs
+
+high-requires : tie.Need-high-requires Inv-loop μ-loop Inv-pairs μ-pairs
+high-requires c κs = search needs
+
+add-row : tie.Need-add-row Inv-loop μ-loop Inv-pairs μ-pairs
+add-row c = search needs
+
+sub-row : tie.Need-sub-row Inv-loop μ-loop Inv-pairs μ-pairs
+sub-row c = search needs
+
+sub-choose : tie.Need-sub-choose Inv-loop μ-loop Inv-pairs μ-pairs
+sub-choose c = search needs
+
+choose-requires : tie.Need-choose-requires Inv-loop μ-loop Inv-pairs μ-pairs
+choose-requires c κs = search needs
+
+orient-requires : tie.Need-orient-requires Inv-loop μ-loop Inv-pairs μ-pairs
+orient-requires c κs = search needs
 
 loop-holds : tie.Need-loop-holds Inv-loop μ-loop Inv-pairs μ-pairs
-loop-holds c = (search needs, search needs, no-round _ _)
-
-add-loop : tie.Need-add-loop Inv-loop μ-loop Inv-pairs μ-pairs
-add-loop c = search needs
-
-sub-loop : tie.Need-sub-loop Inv-loop μ-loop Inv-pairs μ-pairs
-sub-loop c = search needs
+loop-holds c =
+    let r = row-begins _ _ _ _ _ _ _ _ _ _ _ _ (search needs) (c .before .before .before .before .before .folds-back .ensures) (c .before .before .before .before .if2 .left) (c .before .before .before .before .before .before .before .before .before .before .stored-at .ensures)
+    (c .before .before .before .before .before .before .before .before .stored-at2 .ensures ∙ ap (stored-at _ _ _) (c .before .before .before .before .before .before .before .before .before .following .ensures)) (c .before .before .before .low .ensures) (c .before .before .high .ensures) (c .before .choose .ensures)
+    (c .before .before .before .before .before .before .stored-at3 .ensures ∙ ap (stored-at _ _ _) (c .before .before .before .before .before .before .before .following2 .ensures)) (c .orient .ensures) in
+    (c .before .before .before .before .before .before .before .before .before .before .before .before .before .pairs .inv .0, search needs, r .within, r .bound, c .before .before .before .before .before .before .before .before .before .before .before .before .before .pairs .inv .2, r)
 
 add-j : tie.Need-add-j Inv-loop μ-loop Inv-pairs μ-pairs
 add-j c = search needs
@@ -41,8 +87,17 @@ add-j c = search needs
 add-j-2 : tie.Need-add-j-2 Inv-loop μ-loop Inv-pairs μ-pairs
 add-j-2 c = search needs
 
-edges-cross-requires : tie.Need-edges-cross-requires Inv-loop μ-loop Inv-pairs μ-pairs
-edges-cross-requires c κs = search needs
+following-requires-3 : tie.Need-following-requires-3 Inv-loop μ-loop Inv-pairs μ-pairs
+following-requires-3 c κs = search needs
+
+stored-at-requires-4 : tie.Need-stored-at-requires-4 Inv-loop μ-loop Inv-pairs μ-pairs
+stored-at-requires-4 c κs = search needs
+
+orient-requires-2 : tie.Need-orient-requires-2 Inv-loop μ-loop Inv-pairs μ-pairs
+orient-requires-2 c κs = search needs
+
+segments-meet-requires : tie.Need-segments-meet-requires Inv-loop μ-loop Inv-pairs μ-pairs
+segments-meet-requires c κs = (c .before .before .before .before .loop .inv .5 .least, (c .before .before .before .before .loop .inv .5 .most, (c .before .before .before .before .loop .inv .5 .turned, c .orient2 .ensures)))
 
 add-k : tie.Need-add-k Inv-loop μ-loop Inv-pairs μ-pairs
 add-k c = search needs
@@ -51,28 +106,57 @@ loop-less : tie.Need-loop-less Inv-loop μ-loop Inv-pairs μ-pairs
 loop-less c = search needs
 
 loop-again : tie.Need-loop-again Inv-loop μ-loop Inv-pairs μ-pairs
-loop-again c = (search needs, search needs, pair-none _ _ _ _ _ (c .before .before .before .loop .inv .2) (sym (c .before .edges-cross .ensures) ∙ c .if1 .left))
+loop-again c =
+    let r = row-goes-on _ _ _ _ _ _ _ _ _ _ _ _ (c .before .before .before .before .before .before .loop .inv .5) _ _ _ (search needs) (c .before .before .before .stored-at4 .ensures ∙ ap (stored-at _ _ _) (c .before .before .before .before .following3 .ensures))
+    (c .before .before .orient2 .ensures) (c .before .segments-meet .ensures) (c .if3 .left) in
+    (c .before .before .before .before .before .before .loop .inv .0, c .before .before .before .before .before .before .loop .inv .1, r .within, c .before .before .before .before .before .before .loop .inv .3, c .before .before .before .before .before .before .loop .inv .4, r)
 
 add-i : tie.Need-add-i Inv-loop μ-loop Inv-pairs μ-pairs
 add-i c = search needs
+
+folds-back-requires-2 : tie.Need-folds-back-requires-2 Inv-loop μ-loop Inv-pairs μ-pairs
+folds-back-requires-2 c κs = search needs
+
+add-t28 : tie.Need-add-t28 Inv-loop μ-loop Inv-pairs μ-pairs
+add-t28 c = search needs
+
+add-t29 : tie.Need-add-t29 Inv-loop μ-loop Inv-pairs μ-pairs
+add-t29 c = search needs
 
 pairs-less : tie.Need-pairs-less Inv-loop μ-loop Inv-pairs μ-pairs
 pairs-less c = search needs
 
 pairs-again : tie.Need-pairs-again Inv-loop μ-loop Inv-pairs μ-pairs
-pairs-again c =
-    let e : c .before .loop .k ≡ c .before .before .before .before .before .args .n - (c .before .before .before .pairs .i + 1) = omega arith in
-    (search needs, search needs, row-none _ _ _ _ (c .before .before .before .pairs .inv .2) cc)
+pairs-again c = (
+  c .before .before .before .before .loop .inv .0,
+  search needs,
+  c .before .before .before .before .loop .inv .4,
+  row-none _ _ _ _ (c .before .before .before .before .before .before .before .before .before .before .before .before .before .before .before .before .before .before .pairs .inv .3)
+      (row-closes _ _ _ _ _ _ _ _ _ _ _ _ (c .before .before .before .before .loop .inv .5) _ (c .before .before .before .loop-test .left) (c .before .before .if4 .taken) (c .before .folds-back2 .ensures) (c .if5 .left)),
+)
+
+pairs-less-2 : tie.Need-pairs-less-2 Inv-loop μ-loop Inv-pairs μ-pairs
+pairs-less-2 c = search needs
+
+pairs-again-2 : tie.Need-pairs-again-2 Inv-loop μ-loop Inv-pairs μ-pairs
+pairs-again-2 c =
+    (c .before .before .loop .inv .0, search needs, c .before .before .loop .inv .4, row-none _ _ _ _ (c .before .before .before .before .before .before .before .before .before .before .before .before .before .before .before .before .pairs .inv .3) (row-ends _ _ _ _ _ _ _ _ _ _ _ _ (c .before .before .loop .inv .5) (c .if4 .left)))
 
 returns : tie.Need-returns Inv-loop μ-loop Inv-pairs μ-pairs
-unfolding check-simple
-returns c = let e : c .before .pairs .i ≡ c .before .before .before .args .n = omega arith in cc
+returns c = c .before .before .pairs .inv .2 ∙ none-found _ _ _ _ (c .before .before .pairs .inv .1) (search needs) (c .before .before .pairs .inv .3)
 
 returns-2 : tie.Need-returns-2 Inv-loop μ-loop Inv-pairs μ-pairs
 returns-2 c =
-    sym
-    (found-at _ _ _ _ (c .before .before .before .before .before .pairs .inv .2) _ _ (search needs)
-    (row-found _ _ _ _ _ (c .before .before .before .loop .inv .2) (search needs) (sym (c .before .edges-cross .ensures) ∙ c .if1 .taken)))
+    found-next _ _ _ _ _ _ _ _ (c .before .before .before .before .before .before .before .before .before .pairs .inv .3) (search needs) (c .before .before .before .before .before .before .stored-at .ensures) (c .before .before .before .before .stored-at2 .ensures ∙ ap (stored-at _ _ _) (c .before .before .before .before .before .following .ensures)) (c .before .before .stored-at3 .ensures ∙ ap (stored-at _ _ _) (c .before .before .before .following2 .ensures)) (c .before .folds-back .ensures) (c .if2 .taken)
+
+returns-3 : tie.Need-returns-3 Inv-loop μ-loop Inv-pairs μ-pairs
+returns-3 c =
+    found-far _ _ _ _ _ _ _ _ _ _ _ _ (c .before .before .before .before .before .before .loop .inv .5) (c .before .before .before .before .before .before .before .before .before .before .before .before .before .before .before .before .before .before .before .before .pairs .inv .3) (search needs) _ _ (c .before .before .before .before .before .loop-test .taken)
+    (c .before .before .before .stored-at4 .ensures ∙ ap (stored-at _ _ _) (c .before .before .before .before .following3 .ensures)) (c .before .segments-meet .ensures) (c .if3 .taken)
+
+returns-4 : tie.Need-returns-4 Inv-loop μ-loop Inv-pairs μ-pairs
+returns-4 c =
+    found-last _ _ _ _ _ _ _ _ _ _ _ _ (c .before .before .before .before .loop .inv .5) (c .before .before .before .before .before .before .before .before .before .before .before .before .before .before .before .before .before .before .pairs .inv .3) (search needs) _ (c .before .before .before .loop-test .left) (c .before .before .if4 .taken) (c .before .folds-back2 .ensures) (c .if5 .taken)
 
 pub check-simple-spec : {M : Type 1} → statement M
 check-simple-spec =
@@ -83,17 +167,41 @@ check-simple-spec =
     Inv-pairs
     μ-pairs
     pairs-holds
+    less-requires
+    stored-at-requires
+    following-requires
+    stored-at-requires-2
+    add-following
+    following-requires-2
+    stored-at-requires-3
+    folds-back-requires
+    add-t23
+    low-requires
+    high-requires
+    add-row
+    sub-row
+    sub-choose
+    choose-requires
+    orient-requires
     loop-holds
-    add-loop
-    sub-loop
     add-j
     add-j-2
-    edges-cross-requires
+    following-requires-3
+    stored-at-requires-4
+    orient-requires-2
+    segments-meet-requires
     add-k
     loop-less
     loop-again
     add-i
+    folds-back-requires-2
+    add-t28
+    add-t29
     pairs-less
     pairs-again
+    pairs-less-2
+    pairs-again-2
     returns
-    returns-2)
+    returns-2
+    returns-3
+    returns-4)

@@ -1,0 +1,158 @@
+-- An edge that lies north or south of the point changes nothing: the ray does not pass it, and the point is not in its box. Assumes nothing.
+use mathlib.Core.Path.{_≡_, refl, sym, ap, _∙_}
+use mathlib.Core.Bool.{Bool, true, false, cond, _&&_, _||_, false≢true}
+use mathlib.Core.List.{List}
+use Prim.Native.Nat.{ℕ, _+_, _*_, _<_}
+use native.Mathlib.Omega.{arith}
+use borrow.Author.Tests.{ltb-true, lt-ltb, le-ltb, ne-eqb, eqb-true}
+use lib.Dec.{ltb, eqb}
+use lib.Ieee.{Float, nan, inf, fin, lt, le, eq, up, down, below, level, unlike}
+use Rattle.plane.specs.declared.PlanarPoint.{PlanarPoint}
+use Rattle.plane.specs.declared.Containment.{Containment}
+use Rattle.plane.specs.declared.Containment.the-variants.{Inside, OnBoundary, Outside}
+use Rattle.math.specs.Number.{fmin, fmax}
+use Rattle.segment.specs.Segments.{Turn, turn, touches, within-box, is-straight}
+use Rattle.ring.specs.Ring.{vertex-at, edge-end, following}
+use Rattle.contain.specs.Contains.{beside, passes, unless-on, contains-edge, contains-step, step-between}
+
+-- ---- what is below is not above, nor level
+
+below-not-above : (s : Bool) (a : ℕ) (t : Bool) (b : ℕ) → below s a t b ≡ true → below t b s a ≡ false
+below-not-above false a false b h = let l : a < b = ltb-true a b h in le-ltb b a (omega arith)
+below-not-above false a true b h = absurd (false≢true h)
+below-not-above true a false b h = refl
+below-not-above true a true b h = let l : b < a = ltb-true b a h in le-ltb a b (omega arith)
+
+below-not-level : (s : Bool) (a : ℕ) (t : Bool) (b : ℕ) → below s a t b ≡ true → level t b s a ≡ false
+below-not-level false a false b h = let l : a < b = ltb-true a b h in rw (ne-eqb b a (λ (e : b ≡ a). omega arith)) refl
+below-not-level false a true b h = absurd (false≢true h)
+below-not-level true a false b h = go (eqb b a) (eqb b 0) refl refl
+  where
+    go : (x y : Bool) → eqb b a ≡ x → eqb b 0 ≡ y → (x && y) ≡ false
+    go false y p q = refl
+    go true false p q = refl
+    go true true p q =
+        let l : 0 < a + b = ltb-true 0 (a + b) h in
+        let u : b ≡ a = eqb-true b a p in
+        let v : b ≡ 0 = eqb-true b 0 q in
+        absurd (omega arith)
+below-not-level true a true b h = let l : b < a = ltb-true b a h in rw (ne-eqb b a (λ (e : b ≡ a). omega arith)) refl
+
+not-above : (x y : Float) → lt x y ≡ true → lt y x ≡ false
+unfolding lt
+not-above nan y h = absurd (false≢true h)
+not-above (inf s) nan h = absurd (false≢true h)
+not-above (inf false) (inf t) h = absurd (false≢true h)
+not-above (inf true) (inf true) h = refl
+not-above (inf true) (inf false) h = refl
+not-above (inf false) (fin t n d) h = absurd (false≢true h)
+not-above (inf true) (fin t n d) h = refl
+not-above (fin s m e) nan h = absurd (false≢true h)
+not-above (fin s m e) (inf true) h = absurd (false≢true h)
+not-above (fin s m e) (inf false) h = refl
+not-above (fin s m e) (fin t n d) h = below-not-above s (m * up e * down d) t (n * up d * down e) h
+
+not-level : (x y : Float) → lt x y ≡ true → eq y x ≡ false
+unfolding lt eq
+not-level nan y h = absurd (false≢true h)
+not-level (inf s) nan h = absurd (false≢true h)
+not-level (inf false) (inf t) h = absurd (false≢true h)
+not-level (inf true) (inf true) h = absurd (false≢true h)
+not-level (inf true) (inf false) h = refl
+not-level (inf s) (fin t n d) h = refl
+not-level (fin s m e) nan h = absurd (false≢true h)
+not-level (fin s m e) (inf t) h = refl
+not-level (fin s m e) (fin t n d) h = below-not-level s (m * up e * down d) t (n * up d * down e) h
+
+not-reached : (x y : Float) → lt x y ≡ true → le y x ≡ false
+unfolding le
+not-reached x y h = rw (not-above x y h, not-level x y h) refl
+
+-- ---- the box
+
+above-both : (p a b : Float) → lt p a ≡ true → lt p b ≡ true → le (fmin a b) p ≡ false
+unfolding fmin
+above-both p a b x y = go (lt a b) (eq b b)
+  where
+    go : (t u : Bool) → le (cond t a (cond u b a)) p ≡ false
+    go true u = not-reached p a x
+    go false true = not-reached p b y
+    go false false = not-reached p a x
+
+below-both : (p a b : Float) → lt a p ≡ true → lt b p ≡ true → le p (fmax a b) ≡ false
+unfolding fmax
+below-both p a b x y = go (lt b a) (eq b b)
+  where
+    go : (t u : Bool) → le p (cond t a (cond u b a)) ≡ false
+    go true u = not-reached a p x
+    go false true = not-reached b p y
+    go false false = not-reached a p x
+
+both : (x y : Bool) → (x && y) ≡ true → (x ≡ true) × (y ≡ true)
+both true y h = (refl, h)
+both false y h = absurd (false≢true h)
+
+-- by which of the two sides p is beside an edge
+by-side : (P : Type 0) (a b p : Float) → beside a b p ≡ true → (lt p a ≡ true → lt p b ≡ true → P) → (lt a p ≡ true → lt b p ≡ true → P) → P
+unfolding beside
+by-side P a b p h south north = go (lt p a && lt p b) refl h
+  where
+    go : (t : Bool) → (lt p a && lt p b) ≡ t → (t || (lt a p && lt b p)) ≡ true → P
+    go true e h = south (both (lt p a) (lt p b) e .0) (both (lt p a) (lt p b) e .1)
+    go false e h = north (both (lt a p) (lt b p) h .0) (both (lt a p) (lt b p) h .1)
+
+out-of-box : (w x y z : Bool) → (y && z) ≡ false → (w && (x && (y && z))) ≡ false
+out-of-box true true y z h = h
+out-of-box true false y z h = refl
+out-of-box false x y z h = refl
+
+and-none : (y : Bool) → (y && false) ≡ false
+and-none true = refl
+and-none false = refl
+
+beside-box : (a b p : PlanarPoint) → beside (a .north) (b .north) (p .north) ≡ true → within-box a b p ≡ false
+unfolding within-box
+beside-box a b p h = out-of-box (le (fmin (a .east) (b .east)) (p .east)) (le (p .east) (fmax (a .east) (b .east))) (le (fmin (a .north) (b .north)) (p .north)) (le (p .north) (fmax (a .north) (b .north)))
+    (by-side ((le (fmin (a .north) (b .north)) (p .north) && le (p .north) (fmax (a .north) (b .north))) ≡ false) (a .north) (b .north) (p .north) h
+    (λ x y. rw (above-both (p .north) (a .north) (b .north) x y) refl)
+    (λ x y. rw (below-both (p .north) (a .north) (b .north) x y) (and-none (le (fmin (a .north) (b .north)) (p .north)))))
+
+beside-touches : (d : Turn) (a b p : PlanarPoint) → beside (a .north) (b .north) (p .north) ≡ true → touches d a b p ≡ false
+unfolding touches
+beside-touches d a b p h = rw (beside-box a b p h) (and-none (is-straight d))
+
+-- ---- the ray
+
+beside-tests : (a b p : Float) → beside a b p ≡ true → unlike (lt p a) (lt p b) ≡ false
+beside-tests a b p h = by-side (unlike (lt p a) (lt p b) ≡ false) a b p h (λ x y. rw (x, y) refl) (λ x y. rw (not-above a p x, not-above b p y) refl)
+
+beside-passes : (a b p : PlanarPoint) → beside (a .north) (b .north) (p .north) ≡ true → passes a b p ≡ false
+unfolding passes
+beside-passes a b p h = rw (beside-tests (a .north) (b .north) (p .north) h) refl
+
+-- ---- the step
+
+beside-edge : (p a b : PlanarPoint) (s : Containment) → beside (a .north) (b .north) (p .north) ≡ true → contains-edge p a b s ≡ s
+unfolding contains-edge
+beside-edge p a b s h = rw (beside-touches (turn a b p) a b p h, beside-passes a b p h) refl
+
+unless-same : (s : Containment) → unless-on s s ≡ s
+unfolding unless-on
+unless-same Inside = refl
+unless-same OnBoundary = refl
+unless-same Outside = refl
+
+beside-step : (ps : List Float) (n k : ℕ) (p : PlanarPoint) (s : Containment) → beside (vertex-at ps k .north) (edge-end ps n k .north) (p .north) ≡ true → contains-step ps n p k s ≡ s
+unfolding contains-step
+beside-step ps n k p s h = ap (unless-on s) (beside-edge p (vertex-at ps k) (edge-end ps n k) s h) ∙ unless-same s
+
+-- the code's step is the definition's, where a and b are the norths of the edge's ends
+pub step-is :
+    (ps : List Float) (n k : ℕ) (p : PlanarPoint) (a b : Float) (s : Containment) → a ≡ vertex-at ps k .north → b ≡ edge-end ps n k .north →
+    step-between ps n p k a b s ≡ contains-step ps n p k s
+unfolding step-between
+step-is ps n k p a b s e h = rw (e, h) (go (beside (vertex-at ps k .north) (edge-end ps n k .north) (p .north)) refl)
+  where
+    go : (t : Bool) → beside (vertex-at ps k .north) (edge-end ps n k .north) (p .north) ≡ t → cond t s (contains-step ps n p k s) ≡ contains-step ps n p k s
+    go true h = sym (beside-step ps n k p s h)
+    go false h = refl

@@ -1,0 +1,331 @@
+-- Of two vectors whose squared lengths, as computed, differ clearly, the rounded lengths differ, too. Assumes nothing.
+use mathlib.Core.Path.{_≡_, refl, sym, ap, _∙_, subst}
+use mathlib.Core.Logic.{_⊎_, inl, inr}
+use mathlib.Core.Bool.{true, false, false≢true}
+use Prim.Native.Nat.{ℕ, _+_, _-_, _*_, _/_, _^_, _≤_, _<_}
+use native.Mathlib.Nat.{le-trans, le-of-eq, le-of-lt, lt-of-lt-of-le, lt-of-le-of-lt, lt-of-not-le, not-le-of-lt, mul-le-mul-right, mul-lt-mul-of-pos-right, le-of-mul-le-mul-right, mul-pos, mul-assoc, mul-one, mul-comm, add-mul, eq-zero-or-pos}
+use native.Mathlib.Omega.{arith}
+use borrow.Author.Tests.{ltb-true, lt-ltb}
+use lib.Dec.{T}
+use lib.IntN.{negsuc}
+use lib.Pow.{pow-add, pow-pos, pow-mono}
+use lib.Ieee.{Float, nan, inf, fin, binary64, up, down, lt, add, mul, fits}
+use lib.Ieee.Exact.{HasValue}
+use lib.Ieee.Fits.{down-pos}
+use Rattle.hypotenuse.specs.Hypot.{hypot, round-root}
+use Rattle.hypotenuse.specs.Nearest.{Held, NearestRoot, Rounds, past, near, edge}
+use Rattle.hypotenuse.proofs.Poly.{poly}
+use Rattle.hypotenuse.proofs.Order.{sq-le, sq-mono, le-or-lt}
+use Rattle.hypotenuse.proofs.Nearest.{held-of}
+use Rattle.hypotenuse.proofs.Overflow.{round-root-rounds}
+use Rattle.near.proofs.Rounded.{Size, none, endless, huge, sized, finite, infinite, mag, Square, Sums, Scales, more, size-square, size-add, size-scale}
+
+-- ---- the order of values, in units
+
+cross-left : (M U a d c : ℕ) → M * U ≡ a * d → a * (d * c) ≡ M * c * U
+cross-left M U a d c e = sym (mul-assoc a d c) ∙ ap (λ (z : ℕ). z * c) (sym e) ∙ swap
+  where
+    swap : M * U * c ≡ M * c * U
+    swap = simp poly
+
+cross-right : (N U b d c : ℕ) → N * U ≡ b * c → N * d * U ≡ b * (d * c)
+cross-right N U b d c e = left ∙ ap (λ (z : ℕ). z * d) e ∙ right
+  where
+    left : N * d * U ≡ N * U * d
+    left = simp poly
+
+    right : b * c * d ≡ b * (d * c)
+    right = simp poly
+
+values-le : (x y : Float) (a b : ℕ) → HasValue x false a (2 ^ 1074) → HasValue y false b (2 ^ 1074) → lt x y ≡ true → a ≤ b
+unfolding lt
+values-le nan y a b u v h = absurd u
+values-le (inf s) y a b u v h = absurd u
+values-le (fin s m e) nan a b u v h = absurd v
+values-le (fin s m e) (inf t) a b u v h = absurd v
+values-le (fin true m e) (fin t n d) a b u v h = absurd (false≢true (sym (u .0)))
+values-le (fin false m e) (fin true n d) a b u v h = absurd (false≢true (sym (v .0)))
+values-le (fin false m e) (fin false n d) a b u v h =
+    le-of-mul-le-mul-right
+    (le-trans (le-of-eq (cross-left (m * up e) (2 ^ 1074) a (down e) (down d) (u .1)))
+    (le-trans (mul-le-mul-right (2 ^ 1074) (le-of-lt (ltb-true (m * up e * down d) (n * up d * down e) h))) (le-of-eq (cross-right (n * up d) (2 ^ 1074) b (down e) (down d) (v .1)))))
+    (mul-pos (down-pos e) (down-pos d))
+
+values-lt : (x y : Float) (a b : ℕ) → HasValue x false a (2 ^ 1074) → HasValue y false b (2 ^ 1074) → a < b → lt x y ≡ true
+unfolding lt
+values-lt nan y a b u v h = absurd u
+values-lt (inf s) y a b u v h = absurd u
+values-lt (fin s m e) nan a b u v h = absurd v
+values-lt (fin s m e) (inf t) a b u v h = absurd v
+values-lt (fin true m e) (fin t n d) a b u v h = absurd (false≢true (sym (u .0)))
+values-lt (fin false m e) (fin true n d) a b u v h = absurd (false≢true (sym (v .0)))
+values-lt (fin false m e) (fin false n d) a b u v h =
+    let s : m * up e * down d * 2 ^ 1074 < n * up d * down e * 2 ^ 1074 =
+    lt-of-le-of-lt (le-of-eq (sym (cross-left (m * up e) (2 ^ 1074) a (down e) (down d) (u .1))))
+    (lt-of-lt-of-le (mul-lt-mul-of-pos-right h (mul-pos (down-pos e) (down-pos d))) (le-of-eq (sym (cross-right (n * up d) (2 ^ 1074) b (down e) (down d) (v .1))))) in
+    lt-ltb (m * up e * down d) (n * up d * down e) (lt-of-not-le (λ g. not-le-of-lt s (mul-le-mul-right (2 ^ 1074) g)))
+
+value-below-infinity : (x : Float) (a : ℕ) → HasValue x false a (2 ^ 1074) → lt x (inf false) ≡ true
+unfolding lt
+value-below-infinity nan a v = absurd v
+value-below-infinity (inf s) a v = absurd v
+value-below-infinity (fin s m e) a v = refl
+
+infinity-below : (y : Float) → lt (inf false) y ≡ false
+unfolding lt
+infinity-below nan = refl
+infinity-below (inf t) = refl
+infinity-below (fin t n d) = refl
+
+nan-below : (y : Float) → lt nan y ≡ false
+unfolding lt
+nan-below y = refl
+
+below-nan : (x : Float) → lt x nan ≡ false
+unfolding lt
+below-nan nan = refl
+below-nan (inf s) = refl
+below-nan (fin s m e) = refl
+
+-- ---- from the numbers as computed to the exact squares
+
+sums-apart : (a v W w b : ℕ) → 65536 * a ≤ 65537 * v + 65536 → 65536 * (1025 * v) ≤ 65537 * (W * 1024) + 65536 * 1024 → W ≤ w → 65535 * w ≤ 65536 * b + 65536 → 1125899906842624 ≤ w → (1080 * a ≤ 1079 * b) × (562949953421312 ≤ b)
+sums-apart a v W w b p q r s t = (omega arith, omega arith)
+
+few : (β θ : ℕ) → 562949953421312 * θ ≤ β → 16777216 * θ ≤ β
+few β θ s = omega arith
+
+first : (N α β θ : ℕ) → 16777216 * θ ≤ β → 65536 * N ≤ 65537 * α + 131072 * θ → 1080 * α ≤ 1079 * β → 1100 * N ≤ 1099 * β
+first N α β θ f p q = omega arith
+
+second : (N M β θ : ℕ) → 16777216 * θ ≤ β → 1100 * N ≤ 1099 * β → 65535 * β ≤ 65536 * M + 131072 * θ → 1150 * N ≤ 1149 * M
+second N M β θ f p q = omega arith
+
+third : (M β θ : ℕ) → 65535 * β ≤ 65536 * M + 131072 * θ → 562949953421312 * θ ≤ β → 281474976710656 * θ ≤ M
+third M β θ r s = omega arith
+
+squares-apart : (N M α β θ : ℕ) → 65536 * N ≤ 65537 * α + 131072 * θ → 1080 * α ≤ 1079 * β → 65535 * β ≤ 65536 * M + 131072 * θ → 562949953421312 * θ ≤ β → (1150 * N ≤ 1149 * M) × (281474976710656 * θ ≤ M)
+squares-apart N M α β θ p q r s = let f = few β θ s in (second N M β θ f (first N α β θ f p q) r, third M β θ r s)
+
+sums-small : (a v W : ℕ) → 65536 * a ≤ 65537 * v + 65536 → 65536 * (1025 * v) ≤ 65537 * (W * 1024) + 65536 * 1024 → a ≤ 2 * W + 4
+sums-small a v W p q = omega arith
+
+-- ---- the next double after the rounded root
+
+next-large : (y h N M G : ℕ) → 2 * G ≤ y + 5 * h → 1048576 * h ≤ y → y * y ≤ 4 * N → 1150 * N ≤ 1149 * M → G * G ≤ M
+next-large y h N M G a b c d =
+    let e : 4 * (G * G) ≤ y * y + 10 * (y * h) + 25 * (h * h) = le-trans (le-of-eq left) (le-trans (sq-le a) (le-of-eq right)) in
+    let f : 1048576 * (y * h) ≤ y * y = le-trans (le-of-eq flip) (mul-le-mul-right y b) in
+    let g : 1048576 * (h * h) ≤ y * h = le-trans (le-of-eq (sym (mul-assoc 1048576 h h))) (mul-le-mul-right h b) in
+    go (G * G) (y * y) (y * h) (h * h) e f g c
+  where
+    left : 4 * (G * G) ≡ 2 * G * (2 * G)
+    left = simp poly (omega arith)
+
+    right : (y + 5 * h) * (y + 5 * h) ≡ y * y + 10 * (y * h) + 25 * (h * h)
+    right = simp poly (omega arith)
+
+    flip : 1048576 * (y * h) ≡ 1048576 * h * y
+    flip = simp poly
+
+    go : (GG yy yh hh : ℕ) → 4 * GG ≤ yy + 10 * yh + 25 * hh → 1048576 * yh ≤ yy → 1048576 * hh ≤ yh → yy ≤ 4 * N → GG ≤ M
+    go GG yy yh hh e f g c = omega arith
+
+next-small : (M G : ℕ) → G ≤ 1048578 → 281474976710656 ≤ M → G * G ≤ M
+next-small M G a b = le-trans (sq-le a) (le-trans (omega arith) b)
+
+-- a number that a double holds, above q * 2 ^ k by at most twice the last digit
+abbrev after : ℕ → ℕ → ℕ
+after q k = (q / 2 + 1) * 2 * 2 ^ k
+
+after-held : (q k : ℕ) → q ≤ 2 ^ 53 → Held (after q k)
+after-held q k l = subst Held (shift (q / 2 + 1)) (held-of (q / 2 + 1) (k + 1) (omega arith))
+  where
+    shift : (x : ℕ) → x * 2 ^ (k + 1) ≡ x * 2 * 2 ^ k
+    shift x = rw (pow-add 2 k 1) (simp poly (omega arith))
+
+after-above : (q k : ℕ) → q * 2 ^ k < after q k
+after-above q k = mul-lt-mul-of-pos-right (omega arith) (pow-pos k)
+
+after-root : (N M q k : ℕ) → NearestRoot N q k → 1150 * N ≤ 1149 * M → 281474976710656 ≤ M → after q k * after q k ≤ M
+after-root N M q k n p b = elim (le-or-lt 1048576 q) [
+  | inl l ↦ large l
+  | inr g ↦ small g (eq-zero-or-pos k)
+]
+  where
+    up-to : (x : ℕ) → x ≤ q + 2 → x * 2 ^ k ≤ (q + 2) * 2 ^ k
+    up-to x l = mul-le-mul-right (2 ^ k) l
+
+    less : 1048576 ≤ q → (q - 1) * 2 ^ k < q * 2 ^ k
+    less l = mul-lt-mul-of-pos-right (omega arith) (pow-pos k)
+
+    -- y = q * h + (q - 1) * h
+    double : (h : ℕ) → 1048576 ≤ q → 2 * ((q / 2 + 1) * 2 * h) ≤ q * h + (q - 1) * h + 5 * h
+    double h l = le-trans (le-of-eq (sym (mul-assoc 2 ((q / 2 + 1) * 2) h))) (le-trans (mul-le-mul-right h (omega arith)) (le-of-eq join))
+      where
+        join : (q + (q - 1) + 5) * h ≡ q * h + (q - 1) * h + 5 * h
+        join = add-mul (q + (q - 1)) 5 h ∙ ap (λ (z : ℕ). z + 5 * h) (add-mul q (q - 1) h)
+
+    wide : (h : ℕ) → 1048576 ≤ q → 1048576 * h ≤ q * h + (q - 1) * h
+    wide h l = le-trans (mul-le-mul-right h l) (omega arith)
+
+    large : 1048576 ≤ q → after q k * after q k ≤ M
+    large l = next-large (q * 2 ^ k + (q - 1) * 2 ^ k) (2 ^ k) N M (after q k) (double (2 ^ k) l) (wide (2 ^ k) l) (n .below ((q - 1) * 2 ^ k) (held-of (q - 1) k (omega (arith, n .q-le))) (less l)) p
+
+    small : q < 1048576 → (k ≡ 0) ⊎ (0 < k) → after q k * after q k ≤ M
+    small g (inl e) = next-small M (after q k) (subst (λ (j : ℕ). (q / 2 + 1) * 2 * 2 ^ j ≤ 1048578) (sym e) (le-trans (le-of-eq (mul-one ((q / 2 + 1) * 2))) (omega arith))) b
+    small g (inr l) = absurd (not-le-of-lt g (le-trans (omega arith) (n .full l)))
+
+root-reaches : {s q k : ℕ} (Z : ℕ) → Held Z → Z * Z ≤ s → NearestRoot s q k → Z ≤ q * 2 ^ k
+root-reaches {s} {q} {k} Z h l n = not-less (λ (g : q * 2 ^ k < Z). not-le-of-lt (sq-mono (plus Z g)) (le-trans (four Z l) (n .above Z h g)))
+  where
+    not-less : {a b : ℕ} → (b < a → ⊥) → a ≤ b
+    not-less n = omega arith
+
+    plus : (c : ℕ) {a b : ℕ} → a < b → a + c < b + c
+    plus c h = omega arith
+
+    four : (Z : ℕ) → Z * Z ≤ s → (Z + Z) * (Z + Z) ≤ 4 * s
+    four Z h = simp poly (omega arith)
+
+roots-apart : (N M : ℕ) (r s : Float) → 1150 * N ≤ 1149 * M → 281474976710656 ≤ M → 4 * N < edge * edge → Rounds N r → Rounds M s → lt r s ≡ true
+roots-apart N M r s p b f (past g e) y = absurd (not-le-of-lt f g)
+roots-apart N M r s p b f (near q k _ u n) (past g e) = ap (lt r) e ∙ value-below-infinity r (q * 2 ^ k) u
+roots-apart N M r s p b f (near q k _ u n) (near i j _ v m) =
+    values-lt r s (q * 2 ^ k) (i * 2 ^ j) u v (lt-of-lt-of-le (after-above q k) (root-reaches (after q k) (after-held q k (n .q-le)) (after-root N M q k n p b) m))
+
+-- ---- the law
+
+hypot-finite : (x y : Float) → T (finite x) → T (finite y) → hypot x y ≡ round-root binary64 (mag x * mag x + mag y * mag y)
+unfolding hypot
+hypot-finite nan y f g = absurd f
+hypot-finite (inf s) y f g = absurd f
+hypot-finite (fin s m e) nan f g = absurd g
+hypot-finite (fin s m e) (inf t) f g = absurd g
+hypot-finite (fin s m e) (fin t n d) f g = refl
+
+abbrev Squares : Float → Float → ℕ → Type 0
+Squares x y = Sums (λ (g : ℕ). T (finite x) × Square (mag x) g) (λ (g : ℕ). T (finite y) × Square (mag y) g)
+
+abbrev squared : Float → Float → Float
+squared x y = add binary64 (mul binary64 x x) (mul binary64 y y)
+
+size-squared : (x y : Float) → T (fits binary64 x) → T (fits binary64 y) → Size (squared x y) (Squares x y) (T (infinite x) ⊎ T (infinite y))
+size-squared x y f g =
+    size-add (mul binary64 x x) (mul binary64 y y) (λ (g : ℕ). T (finite x) × Square (mag x) g) (λ (g : ℕ). T (finite y) × Square (mag y) g) (T (infinite x)) (T (infinite y)) (size-square x f) (size-square y g)
+
+two-low : (X Y a b θ : ℕ) → 65536 * X ≤ 65537 * (a * θ) + 65536 * θ → 65536 * Y ≤ 65537 * (b * θ) + 65536 * θ → 65536 * (X + Y) ≤ 65537 * ((a + b) * θ) + 131072 * θ
+two-low X Y a b θ p q = let e = add-mul a b θ in go (a * θ) (b * θ) ((a + b) * θ) e p q
+  where
+    go : (x y z : ℕ) → z ≡ x + y → 65536 * X ≤ 65537 * x + 65536 * θ → 65536 * Y ≤ 65537 * y + 65536 * θ → 65536 * (X + Y) ≤ 65537 * z + 131072 * θ
+    go x y z e p q = omega arith
+
+two-high : (X Y a b θ : ℕ) → 65535 * (a * θ) ≤ 65536 * X + 65536 * θ → 65535 * (b * θ) ≤ 65536 * Y + 65536 * θ → 65535 * ((a + b) * θ) ≤ 65536 * (X + Y) + 131072 * θ
+two-high X Y a b θ p q = let e = add-mul a b θ in go (a * θ) (b * θ) ((a + b) * θ) e p q
+  where
+    go : (x y z : ℕ) → z ≡ x + y → 65535 * x ≤ 65536 * X + 65536 * θ → 65535 * y ≤ 65536 * Y + 65536 * θ → 65535 * z ≤ 65536 * (X + Y) + 131072 * θ
+    go x y z e p q = omega arith
+
+times : (c d a b θ : ℕ) → c * a ≤ d * b → c * (a * θ) ≤ d * (b * θ)
+times c d a b θ h = le-trans (le-of-eq (sym (mul-assoc c a θ))) (le-trans (mul-le-mul-right θ h) (le-of-eq (mul-assoc d b θ)))
+
+-- the largest that a sum of squares can be beside one that is finite
+largest : 4 * ((4 * 2 ^ 2098 + 12) * 2 ^ 1074) < edge * edge
+largest = ltb-true (4 * ((4 * 2 ^ 2098 + 12) * 2 ^ 1074)) (edge * edge) refl
+
+small-sum : (N a W O θ : ℕ) → 65536 * N ≤ 65537 * (a * θ) + 131072 * θ → a ≤ 2 * W + 4 → W ≤ O → N ≤ (4 * O + 12) * θ
+small-sum N a W O θ p q r =
+    let t : a * θ ≤ (2 * O + 4) * θ = mul-le-mul-right θ (omega arith) in
+    go (a * θ) ((2 * O + 4) * θ) ((4 * O + 12) * θ) part p t
+  where
+    part : (4 * O + 12) * θ ≡ 2 * ((2 * O + 4) * θ) + 4 * θ
+    part = simp poly (omega arith)
+
+    go : (x y z : ℕ) → z ≡ 2 * y + 4 * θ → 65536 * N ≤ 65537 * x + 131072 * θ → x ≤ y → N ≤ z
+    go x y z e p t = omega arith
+
+hypot-endless : (x y : Float) → T (infinite x) ⊎ T (infinite y) → hypot x y ≡ inf false
+unfolding hypot
+hypot-endless nan nan (inl i) = absurd i
+hypot-endless nan nan (inr i) = absurd i
+hypot-endless nan (inf t) i = refl
+hypot-endless nan (fin t n d) (inl i) = absurd i
+hypot-endless nan (fin t n d) (inr i) = absurd i
+hypot-endless (inf s) y i = refl
+hypot-endless (fin s m e) nan (inl i) = absurd i
+hypot-endless (fin s m e) nan (inr i) = absurd i
+hypot-endless (fin s m e) (inf t) i = refl
+hypot-endless (fin s m e) (fin t n d) (inl i) = absurd i
+hypot-endless (fin s m e) (fin t n d) (inr i) = absurd i
+
+scale-up : (c t : ℕ) → 1 ≤ t → c ≤ c * t
+scale-up c t h = le-trans (omega arith) (le-trans (mul-le-mul-right c h) (le-of-eq (mul-comm t c)))
+
+abbrev squares : Float → Float → ℕ
+squares x y = mag x * mag x + mag y * mag y
+
+low-sum : (x y : Float) (g : ℕ) (p : Squares x y g) → 65536 * squares x y ≤ 65537 * ((p .0 + p .1) * 2 ^ 1074) + 131072 * 2 ^ 1074
+low-sum x y g p = two-low (mag x * mag x) (mag y * mag y) (p .0) (p .1) (2 ^ 1074) (p .2 .0 .1 .low) (p .2 .1 .1 .low)
+
+high-sum : (x y : Float) (g : ℕ) (p : Squares x y g) → 65535 * ((p .0 + p .1) * 2 ^ 1074) ≤ 65536 * squares x y + 131072 * 2 ^ 1074
+high-sum x y g p = two-high (mag x * mag x) (mag y * mag y) (p .0) (p .1) (2 ^ 1074) (p .2 .0 .1 .high) (p .2 .1 .1 .high)
+
+numbers-apart : (x y z t : Float) (W w : ℕ) → Scales (Squares x y) W → Squares z t w → W ≤ w → 1125899906842624 ≤ w → (1150 * squares x y ≤ 1149 * squares z t) × (281474976710656 ≤ squares z t)
+numbers-apart x y z t W w p q l g =
+    let d = p .1 .0 in
+    let a = d .0 + d .1 in
+    let b = q .0 + q .1 in
+    let s = sums-apart a (p .0) W w b (d .2 .2 .low) (p .1 .1 .low) l (q .2 .2 .high) g in
+    let r = squares-apart (squares x y) (squares z t) (a * 2 ^ 1074) (b * 2 ^ 1074) (2 ^ 1074) (low-sum x y (p .0) d) (times 1080 1079 a b (2 ^ 1074) (s .0)) (high-sum z t w q) (mul-le-mul-right (2 ^ 1074) (s .1)) in
+    (r .0, le-trans (scale-up 281474976710656 (2 ^ 1074) (pow-pos 1074)) (r .1))
+
+number-small : (x y : Float) (W : ℕ) → Scales (Squares x y) W → W < 2 ^ 2098 → 4 * squares x y < edge * edge
+number-small x y W p l =
+    let d = p .1 .0 in
+    let a = d .0 + d .1 in
+    let n = small-sum (squares x y) a W (2 ^ 2098) (2 ^ 1074) (low-sum x y (p .0) d) (sums-small a (p .0) W (d .2 .2 .low) (p .1 .1 .low)) (le-of-lt l) in
+    four (squares x y) ((4 * 2 ^ 2098 + 12) * 2 ^ 1074) (edge * edge) n largest
+  where
+    four : (a b c : ℕ) → a ≤ b → 4 * b < c → 4 * a < c
+    four a b c l h = omega arith
+
+below-root : (N : ℕ) (r : Float) → 4 * N < edge * edge → Rounds N r → lt r (inf false) ≡ true
+below-root N r f (past g e) = absurd (not-le-of-lt f g)
+below-root N r f (near q k _ u n) = value-below-infinity r (q * 2 ^ k) u
+
+-- 2 ^ -1000
+abbrev pub tiny-number : Float
+tiny-number = fin false 1 (negsuc 999)
+
+tiny-value : HasValue tiny-number false (2 ^ 74) (2 ^ 1074)
+tiny-value = (refl, refl)
+
+pub clearly-less : (x y z t : Float) → T (fits binary64 x) → T (fits binary64 y) → T (fits binary64 z) → T (fits binary64 t) →
+    lt (mul binary64 more (squared x y)) (squared z t) ≡ true → lt tiny-number (squared z t) ≡ true → lt (hypot x y) (hypot z t) ≡ true
+clearly-less x y z t fx fy fz ft h g =
+    outer (size-scale (squared x y) (Squares x y) (T (infinite x) ⊎ T (infinite y)) (size-squared x y fx fy)) (size-squared z t fz ft)
+  where
+    both : (W w : ℕ) → W < 2 ^ 2098 → Scales (Squares x y) W → Squares z t w → W ≤ w → 2 ^ 74 ≤ w → lt (hypot x y) (hypot z t) ≡ true
+    both W w l p q k b =
+        let n = numbers-apart x y z t W w p q k (le-trans (omega arith) b) in
+        rw (hypot-finite x y (p .1 .0 .2 .0 .0) (p .1 .0 .2 .1 .0), hypot-finite z t (q .2 .0 .0) (q .2 .1 .0))
+        (roots-apart (squares x y) (squares z t) (round-root binary64 (squares x y)) (round-root binary64 (squares z t)) (n .0) (n .1) (number-small x y W p l) (round-root-rounds (squares x y))
+        (round-root-rounds (squares z t)))
+
+    inner : (W : ℕ) → HasValue (mul binary64 more (squared x y)) false W (2 ^ 1074) → W < 2 ^ 2098 → Scales (Squares x y) W → Size (squared z t) (Squares z t) (T (infinite z) ⊎ T (infinite t)) →
+        lt (hypot x y) (hypot z t) ≡ true
+    inner W u l p (none e) = absurd (false≢true (sym (below-nan (mul binary64 more (squared x y))) ∙ ap (lt (mul binary64 more (squared x y))) (sym e) ∙ h))
+    inner W u l p (endless e i) =
+        rw (hypot-endless z t i, hypot-finite x y (p .1 .0 .2 .0 .0) (p .1 .0 .2 .1 .0)) (below-root (squares x y) (round-root binary64 (squares x y)) (number-small x y W p l) (round-root-rounds (squares x y)))
+    inner W u l p (huge w e k q) = both W w l p q (le-trans (le-of-lt l) k) (le-trans much k)
+      where
+        much : 2 ^ 74 ≤ 2 ^ 2098
+        much = pow-mono {i = 74} {j = 2098} (omega arith)
+    inner W u l p (sized w v k q) =
+        both W w l p q (values-le (mul binary64 more (squared x y)) (squared z t) W w u v h) (values-le tiny-number (squared z t) (2 ^ 74) w tiny-value v g)
+
+    outer : Size (mul binary64 more (squared x y)) (Scales (Squares x y)) (Unit {0}) → Size (squared z t) (Squares z t) (T (infinite z) ⊎ T (infinite t)) → lt (hypot x y) (hypot z t) ≡ true
+    outer (none e) y = absurd (false≢true (sym (nan-below (squared z t)) ∙ ap (λ (r : Float). lt r (squared z t)) (sym e) ∙ h))
+    outer (endless e i) y = absurd (false≢true (sym (infinity-below (squared z t)) ∙ ap (λ (r : Float). lt r (squared z t)) (sym e) ∙ h))
+    outer (huge g e l p) y = absurd (false≢true (sym (infinity-below (squared z t)) ∙ ap (λ (r : Float). lt r (squared z t)) (sym e) ∙ h))
+    outer (sized W u l p) y = inner W u l p y

@@ -1,0 +1,12 @@
+-- `near::clearly` meets its contract. Assumes nothing.
+use mathlib.Core.Path.{refl}
+use Rattle.near.specs.Near
+use Rattle.near.proofs.clearly.Statement.{statement}
+use Rattle.near.proofs.clearly.Tie as tie
+
+returns : tie.Need-returns
+unfolding Near.clearly
+returns c = refl
+
+pub clearly-spec : {M : Type 1} → statement M
+clearly-spec = tie.close (tie.spec returns)

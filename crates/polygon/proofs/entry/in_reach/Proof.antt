@@ -1,0 +1,11 @@
+-- `polygon::entry::in_reach` meets its contract. Assumes nothing.
+use Rattle.polygon.proofs.Reach.{in-reach-is}
+use borrow.Author.Needs.{needs}
+use Rattle.polygon.proofs.entry.in_reach.Statement.{statement}
+use Rattle.polygon.proofs.entry.in_reach.Tie as tie
+
+returns : tie.Need-returns
+returns c = in-reach-is _
+
+pub in-reach-spec : {M : Type 1} → statement M
+in-reach-spec = tie.close (tie.spec returns)
