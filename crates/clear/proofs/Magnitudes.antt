@@ -1,0 +1,158 @@
+-- Which doubles are at least a number: by a magnitude, by a vector's larger side, and where the number is a NaN. Assumes nothing.
+use Prim.Native.Nat.{ℕ, _+_, _*_, _≤_}
+use native.Mathlib.Omega.{arith}
+use mathlib.Core.Path.{_≡_, refl, sym, ap, _∙_}
+use mathlib.Core.Bool.{Bool, true, false, cond, _&&_, _||_, true≢false, false≢true}
+use borrow.Author.Tests.{ltb-false, eqb-true, eq-eqb, le-ltb}
+use lib.Dec.{T, ltb, eqb}
+use lib.Ieee.{Float, nan, inf, fin, binary64, up, down, below, level, lt, le, eq, neg, fits, isNan}
+use Rattle.boxes.proofs.Order.{under-not-over, under-nan, itself, short}
+use Rattle.math.specs.Number.{abs}
+use Rattle.math.proofs.Laws.{hypot-swap, hypot-not-below}
+use Rattle.plane.specs.declared.PlanarPoint.{PlanarPoint}
+use Rattle.plane.specs.Points.{length-of}
+use Rattle.clear.specs.Gaps.{larger, reach}
+
+-- ---- not below one another: at least
+
+-- two numbers by signs and counts
+level-or : (a b : ℕ) → a ≤ b → (ltb a b || (eqb a b && true)) ≡ true
+level-or a b l = go (ltb a b) refl
+  where
+    go : (t : Bool) → ltb a b ≡ t → (t || (eqb a b && true)) ≡ true
+    go true e = refl
+    go false e = rw (eq-eqb a b (let h : b ≤ a = ltb-false a b e in omega arith)) refl
+
+level-or-down : (a b : ℕ) → b ≤ a → (ltb b a || (eqb a b && true)) ≡ true
+level-or-down a b l = go (ltb b a) refl
+  where
+    go : (t : Bool) → ltb b a ≡ t → (t || (eqb a b && true)) ≡ true
+    go true e = refl
+    go false e = rw (eq-eqb a b (let h : a ≤ b = ltb-false b a e in omega arith)) refl
+
+both-none : (a b : ℕ) → a + b ≤ 0 → (eqb a b && eqb a 0) ≡ true
+both-none a b l = rw (eq-eqb a b (omega arith), eq-eqb a 0 (omega arith)) refl
+
+none-or : (a b : ℕ) → (ltb 0 (a + b) || (eqb a b && eqb a 0)) ≡ true
+none-or a b = go (ltb 0 (a + b)) refl
+  where
+    go : (t : Bool) → ltb 0 (a + b) ≡ t → (t || (eqb a b && eqb a 0)) ≡ true
+    go true e = refl
+    go false e = both-none a b (ltb-false 0 (a + b) e)
+
+at-least-fin : (s t : Bool) (a b : ℕ) → below t b s a ≡ false → (below s a t b || level s a t b) ≡ true
+at-least-fin false false a b h = level-or a b (ltb-false b a h)
+at-least-fin false true a b h = both-none a b (let l : b + a ≤ 0 = ltb-false 0 (b + a) h in omega arith)
+at-least-fin true false a b h = none-or a b
+at-least-fin true true a b h = level-or-down a b (ltb-false a b h)
+
+numbers : (b g : Float) → eq b b ≡ true → isNan g ≡ false → lt g b ≡ false → le b g ≡ true
+unfolding le lt eq isNan
+numbers nan g e n h = absurd (false≢true e)
+numbers (inf s) nan e n h = absurd (true≢false n)
+numbers (inf true) (inf true) e n h = refl
+numbers (inf true) (inf false) e n h = refl
+numbers (inf false) (inf true) e n h = absurd (true≢false h)
+numbers (inf false) (inf false) e n h = refl
+numbers (inf true) (fin t k d) e n h = refl
+numbers (inf false) (fin t k d) e n h = absurd (true≢false h)
+numbers (fin s m c) nan e n h = absurd (true≢false n)
+numbers (fin s m c) (inf true) e n h = absurd (true≢false h)
+numbers (fin s m c) (inf false) e n h = refl
+numbers (fin s m c) (fin t k d) e n h = at-least-fin s t (m * up c * down d) (k * up d * down c) h
+
+-- a number that is not below b is at least b, where b is one itself
+pub at-least : (b g : Float) → isNan g ≡ false → lt g b ≡ false → le b g ≡ eq b b
+unfolding le lt eq
+at-least b g n h = go (eq b b) refl
+  where
+    go : (t : Bool) → eq b b ≡ t → le b g ≡ t
+    go true e = numbers b g e n h
+    go false e = rw (itself b e) refl
+
+-- ---- below: less than what is above
+
+le-of-lt : (x y : Float) → lt x y ≡ true → le x y ≡ true
+unfolding le
+le-of-lt x y h = rw h refl
+
+-- x below y and y below z
+pub lt-trans : (x y z : Float) → lt x y ≡ true → lt y z ≡ true → lt x z ≡ true
+lt-trans x y z h g = go (lt x z) refl
+  where
+    go : (t : Bool) → lt x z ≡ t → t ≡ true
+    go true e = refl
+    go false e = sym (short x y z h e) ∙ le-of-lt y z g
+
+-- x below z and not below the number y, so y is below z
+pub lt-from : (x y z : Float) → isNan y ≡ false → lt x z ≡ true → lt x y ≡ false → lt y z ≡ true
+lt-from x y z n h g = go (lt y z) refl
+  where
+    go : (t : Bool) → lt y z ≡ t → t ≡ true
+    go true e = refl
+    go false e = number (eq z z) refl
+      where
+        number : (t : Bool) → eq z z ≡ t → false ≡ true
+        number true d = sym (short x z y h g) ∙ at-least z y n e ∙ d
+        number false d = sym (under-nan x z d) ∙ h
+
+-- what is below something is a number
+pub lt-number : (x y : Float) → lt x y ≡ true → isNan x ≡ false
+unfolding lt isNan
+lt-number nan y h = absurd (false≢true h)
+lt-number (inf s) y h = refl
+lt-number (fin s m e) y h = refl
+
+-- ---- a magnitude
+
+second : (a b : ℕ) → (eqb a b && eqb a 0) ≡ true → a ≡ 0
+second a b h = go (eqb a b) (eqb a 0) refl h
+  where
+    go : (p q : Bool) → eqb a 0 ≡ q → (p && q) ≡ true → a ≡ 0
+    go true true e d = eqb-true a 0 e
+    go true false e d = absurd (false≢true d)
+    go false q e d = absurd (false≢true d)
+
+not-below-none : (a b : ℕ) → b ≡ 0 → ltb a b ≡ false
+not-below-none a b e = le-ltb a b (omega arith)
+
+-- what is at least b has a magnitude that is not below b
+abs-not-below : (x b : Float) → le b x ≡ true → lt (abs x) b ≡ false
+unfolding abs lt le eq
+abs-not-below nan b h = refl
+abs-not-below (inf s) nan h = refl
+abs-not-below (inf s) (inf t) h = refl
+abs-not-below (inf s) (fin t n d) h = refl
+abs-not-below (fin false m e) b h = go (lt (fin false m e) b) refl
+  where
+    go : (t : Bool) → lt (fin false m e) b ≡ t → t ≡ false
+    go true g = sym (sym (under-not-over (fin false m e) b g) ∙ h)
+    go false g = refl
+abs-not-below (fin true m e) nan h = refl
+abs-not-below (fin true m e) (inf true) h = refl
+abs-not-below (fin true m e) (inf false) h = absurd (false≢true h)
+abs-not-below (fin true m e) (fin true n d) h = refl
+abs-not-below (fin true m e) (fin false n d) h = not-below-none (m * up e * down d) (n * up d * down e) (second (n * up d * down e) (m * up e * down d) h)
+
+abs-neg : (x : Float) → abs (neg x) ≡ abs x
+unfolding abs neg
+abs-neg nan = refl
+abs-neg (inf s) = refl
+abs-neg (fin s m e) = refl
+
+side-not-below : (x b : Float) → le b (larger x (neg x)) ≡ true → lt (abs x) b ≡ false
+unfolding larger
+side-not-below x b h = go (lt x (neg x)) h
+  where
+    go : (t : Bool) → le b (cond t (neg x) x) ≡ true → lt (abs x) b ≡ false
+    go true l = ap (λ (z : Float). lt z b) (sym (abs-neg x)) ∙ abs-not-below (neg x) b l
+    go false l = abs-not-below x b l
+
+-- a vector whose larger side is at least b is not shorter than b
+pub reach-not-below : (v : PlanarPoint) (b : Float) → T (fits binary64 (v .east)) → T (fits binary64 (v .north)) → le b (reach v) ≡ true → lt (length-of v) b ≡ false
+unfolding reach length-of larger
+reach-not-below v b fe fn h = go (lt (larger (v .east) (neg (v .east))) (larger (v .north) (neg (v .north)))) h
+  where
+    go : (t : Bool) → le b (cond t (larger (v .north) (neg (v .north))) (larger (v .east) (neg (v .east)))) ≡ true → lt (length-of v) b ≡ false
+    go true l = ap (λ (z : Float). lt z b) (hypot-swap (v .east) (v .north)) ∙ hypot-not-below (v .north) (v .east) b fn (side-not-below (v .north) b l)
+    go false l = hypot-not-below (v .east) (v .north) b fe (side-not-below (v .east) b l)

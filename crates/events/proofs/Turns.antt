@@ -1,0 +1,231 @@
+-- One turn of each loop of the search, by what the code holds. Assumes nothing.
+use Prim.Native.Nat.{ℕ, _+_, _<_, _≤_}
+use mathlib.Core.Path.{_≡_, refl, sym, ap, _∙_, subst}
+use mathlib.Core.Bool.{Bool, true, false, cond, not, _&&_, _||_}
+use mathlib.Core.List.{List}
+use native.Mathlib.Omega.{arith}
+use borrow.Author.Tests.{ltb-true}
+use lib.Dec.{ltb, eqb}
+use lib.ListN.{getD}
+use lib.Ieee.{Float, lt, le, neg}
+use Rattle.plane.specs.declared.PlanarPoint.{PlanarPoint}
+use Rattle.plane.specs.Plane.{dot, sub, cross}
+use Rattle.math.specs.Number
+use Rattle.math.specs.Number.{zero-float, one, div, fmax, add}
+use Rattle.front.specs.declared.Edge.{Edge}
+use Rattle.front.specs.declared.Vertex.{Vertex}
+use Rattle.front.specs.declared.Vertex.the-variants.{NoVertex, Moving}
+use Rattle.front.specs.declared.Length.{Length}
+use Rattle.front.specs.declared.EventSearch.{EventSearch}
+use Rattle.front.specs.declared.SoonestCollapse.{SoonestCollapse}
+use Rattle.front.specs.declared.SoonestCollapse.the-variants.{NoCollapse, CollapseAfter}
+use Rattle.front.specs.declared.SoonestSplit.{SoonestSplit}
+use Rattle.front.specs.declared.SoonestSplit.the-variants.{NoSplit, SplitAfter}
+use Rattle.front.specs.Lines.{direction, normal}
+use Rattle.front.specs.Edges.{unused, blank, edge, edge-line, vertex-of, vertex, moved-by, length-to, edge-length}
+use Rattle.front.specs.NextEvent.{look-stalled, look-split, look-collapse, sooner, late, hit-to, hit-from, hit-then, hit-after, hit-closing, hit-at, candidate, hit-step, hits, look-turn, shrinking, look-length, look-vertex, look-at, look-step}
+use Rattle.loops.specs.Loop.{rounds}
+use Rattle.loops.proofs.Laws.{no-round}
+use Rattle.lines.specs.Moving.{length-between}
+use Rattle.lines.proofs.Ends.{length-is, edge-read}
+use Rattle.events.specs.declared.Coming.{Coming}
+use Rattle.events.specs.declared.Struck.{Struck}
+use Rattle.events.specs.declared.Turn.{Turn}
+use Rattle.events.specs.Found.{collapse-of, split-of, search-of, coming-by, approach, strike, shrink, corner-of, reflex, start-of, turn-by, turn-from, turn-at, strike-at}
+
+-- ---- reads
+
+-- a slot out of the front is read as the first
+pub slot-in : (k r : ℕ) → r ≡ cond (ltb k 128) k 0 → r < 128
+slot-in k r e = subst (λ (z : ℕ). z < 128) (sym e) (go (ltb k 128) refl)
+  where
+    go : (b : Bool) → ltb k 128 ≡ b → cond b k 0 < 128
+    go true h = ltb-true k 128 h
+    go false h = omega arith
+
+pub reads : (f : List Edge) (k r : ℕ) (e : Edge) → r ≡ cond (ltb k 128) k 0 → e ≡ cond (ltb k 128) (getD f r blank) unused → e ≡ edge f k
+reads f k r e i h = h ∙ ap (λ (z : ℕ). cond (ltb k 128) (getD f z blank) unused) i ∙ edge-read f k
+
+-- ---- the state in scalars
+
+late-of : (d : Bool) (x y : ℕ) (s step : Float) → late step (split-of d x y s) ≡ d && le s step
+unfolding late split-of
+late-of false x y s step = refl
+late-of true x y s step = refl
+
+search-or : (b : Bool) (k : ℕ) (soon : Float) (on d : Bool) (i j x y : ℕ) (q s : Float) →
+    cond on (look-split (search-of b k soon d x y s) (SplitAfter i j q)) (search-of b k soon d x y s)
+    ≡ search-of b k soon (d || on) (cond on i x) (cond on j y) (cond on q s)
+unfolding search-of split-of look-split
+search-or b k soon true true i j x y q s = refl
+search-or b k soon true false i j x y q s = refl
+search-or b k soon false true i j x y q s = refl
+search-or b k soon false false i j x y q s = refl
+
+collapse-or : (r b : Bool) (a k : ℕ) (q soon : Float) →
+    cond r (sooner a q (collapse-of b k soon)) (collapse-of b k soon)
+    ≡ collapse-of (b || (r && (not b || lt q soon))) (cond (r && (not b || lt q soon)) a k) (cond (r && (not b || lt q soon)) q soon)
+unfolding collapse-of sooner
+collapse-or false true a k q soon = refl
+collapse-or false false a k q soon = refl
+collapse-or true false a k q soon = refl
+collapse-or true true a k q soon = go (lt q soon)
+  where
+    go : (m : Bool) → cond m (CollapseAfter a q) (CollapseAfter k soon) ≡ CollapseAfter (cond m a k) (cond m q soon)
+    go true = refl
+    go false = refl
+
+-- the tests of the inner loop, in one
+tests : {S : Type 0} (w q r l : Bool) (x y : S) → cond w (cond q y (cond (r || l) y x)) y ≡ cond ((w && (not q && not r)) && not l) x y
+tests false q r l x y = refl
+tests true true r l x y = refl
+tests true false true l x y = refl
+tests true false false true x y = refl
+tests true false false false x y = refl
+
+-- ---- the inner loop
+
+struck-on : EventSearch → ℕ → ℕ → Float → Struck → EventSearch
+struck-on s slot other step h = cond (h .lost) (look-stalled s) (cond (h .on) (look-split s (SplitAfter slot other step)) s)
+
+strikes : (f : List Edge) (slot other : ℕ) (g : Edge) (step at : Float) (p : PlanarPoint) (s : EventSearch) (x : Vertex) →
+    hit-from f slot other g step at p s x ≡ struck-on s slot other step (strike g p x (vertex f (g .next) at))
+unfolding hit-from hit-to struck-on strike
+strikes f slot other g step at p s NoVertex = refl
+strikes f slot other g step at p s (Moving from v) = go (vertex f (g .next) at)
+  where
+    go : (y : Vertex) → hit-to slot other (direction (edge-line g)) step p from s y ≡ struck-on s slot other step (strike g p (Moving from v) y)
+    go NoVertex = refl
+    go (Moving to w) = refl
+
+module _ (f : List Edge) (t : Float) (slot before : ℕ) (p v : PlanarPoint) (other : ℕ) (b : Bool) (k : ℕ) (soon : Float) (d : Bool) (x y : ℕ) (step : Float) where
+  abbrev here : EventSearch
+  here = search-of b k soon d x y step
+
+  abbrev asks : Edge → Coming → Bool
+  asks g c = ((g .alive && (not (eqb other slot) && not (eqb other before))) && c .ahead) && not (d && le step (c .step))
+
+  closes : (g : Edge) (w : Bool) (closing q : Float) →
+      cond w (cond (le zero-float closing) here (cond (lt q zero-float || late q (split-of d x y step)) here (hit-then f t slot other g p v q here))) here
+      ≡ cond ((w && (not (le zero-float closing) && not (lt q zero-float))) && not (d && le step q)) (hit-then f t slot other g p v q here) here
+  closes g w closing q =
+      rw (late-of d x y step q) (tests w (le zero-float closing) (lt q zero-float) (d && le step q) (hit-then f t slot other g p v q here) here)
+
+  asked : (g : Edge) → cond (candidate slot before other g here) (hit-at f t slot other g p v here) here
+      ≡ cond (asks g (approach g p v t)) (hit-then f t slot other g p v ((approach g p v t) .step) here) here
+  unfolding candidate hit-at hit-closing hit-after search-of approach coming-by
+  asked g =
+      closes g (g .alive && (not (eqb other slot) && not (eqb other before))) (Number.sub (dot (normal (edge-line g)) v) one)
+      (div (Number.sub (add ((edge-line g) .c) t) (dot (normal (edge-line g)) p)) (Number.sub (dot (normal (edge-line g)) v) one))
+
+  then-struck : (q : Float) → hit-then f t slot other (edge f other) p v q here
+      ≡ struck-on here slot other q
+      (strike-at (edge f ((edge f other) .previous)) (edge f other) (edge f ((edge f ((edge f other) .next)) .previous)) (edge f ((edge f other) .next)) p v q t)
+  unfolding hit-then strike-at start-of vertex vertex-of
+  then-struck q = strikes f slot other (edge f other) q (add t q) (moved-by p v q) here (vertex f other (add t q))
+
+  module _ (g : Edge) (c : Coming) (eg : g ≡ edge f other) (ec : c ≡ approach g p v t) where
+    by-test : hit-step f t slot before p v other here ≡ cond (asks g c) (hit-then f t slot other g p v (c .step) here) here
+    unfolding hit-step
+    by-test = rw (← eg, ec) (asked g)
+
+    pub passes : asks g c ≡ false → hit-step f t slot before p v other here ≡ here
+    passes h = by-test ∙ ap (λ (z : Bool). cond z (hit-then f t slot other g p v (c .step) here) here) h
+
+    module _ (first last own : Edge) (h : Struck) (ea : first ≡ edge f (g .previous)) (el : last ≡ edge f (g .next)) (eo : own ≡ edge f (last .previous))
+        (eh : h ≡ strike-at first g own last p v (c .step) t) (a : asks g c ≡ true) where
+      struck-as : hit-then f t slot other g p v (c .step) here ≡ struck-on here slot other (c .step) h
+      struck-as = rw (eh, eo, el, ea, eg) (then-struck (c .step))
+
+      by-strike : hit-step f t slot before p v other here ≡ struck-on here slot other (c .step) h
+      by-strike = by-test ∙ ap (λ (z : Bool). cond z (hit-then f t slot other g p v (c .step) here) here) a ∙ struck-as
+
+      pub strikes-lost : h .lost ≡ true → hit-step f t slot before p v other here ≡ look-stalled here
+      unfolding struck-on
+      strikes-lost l = by-strike ∙ ap (λ (z : Bool). cond z (look-stalled here) (cond (h .on) (look-split here (SplitAfter slot other (c .step))) here)) l
+
+      pub strikes-on : (x′ y′ : ℕ) (step′ : Float) → x′ ≡ cond (h .on) slot x → y′ ≡ cond (h .on) other y → step′ ≡ cond (h .on) (c .step) step → h .lost ≡ false →
+          hit-step f t slot before p v other here ≡ search-of b k soon (d || h .on) x′ y′ step′
+      unfolding struck-on
+      strikes-on x′ y′ step′ ex ey es l =
+          by-strike
+          ∙ ap (λ (z : Bool). cond z (look-stalled here) (cond (h .on) (look-split here (SplitAfter slot other (c .step))) here)) l
+          ∙ rw (ex, ey, es) (search-or b k soon (h .on) d slot other x y (c .step) step)
+
+-- ---- the outer loop
+
+module _ (f : List Edge) (t : Float) (slot : ℕ) (b : Bool) (k : ℕ) (soon : Float) (d : Bool) (x y : ℕ) (step : Float) where
+  abbrev now : EventSearch
+  now = search-of b k soon d x y step
+
+  shrinks-by : (r : Bool) (q : Float) →
+      cond r (look-collapse now (sooner slot q (collapse-of b k soon))) now
+      ≡ search-of (b || (r && (not b || lt q soon))) (cond (r && (not b || lt q soon)) slot k) (cond (r && (not b || lt q soon)) q soon) d x y step
+  unfolding search-of look-collapse
+  shrinks-by true q = ap (λ (c : SoonestCollapse). record { stalled = false; collapse = c; split = split-of d x y step }) (collapse-or true b slot k q soon)
+  shrinks-by false q = ap (λ (c : SoonestCollapse). record { stalled = false; collapse = c; split = split-of d x y step }) (collapse-or false b slot k q soon)
+
+  turns : (before e : Edge) (p v : PlanarPoint) (s : EventSearch) → before ≡ edge f (e .previous) →
+      look-turn f t slot e p v s ≡ rounds (hit-step f t slot (e .previous) p v) (cond (reflex (edge-line before) (edge-line e)) 128 0) s
+  unfolding look-turn hits reflex
+  turns before e p v s h = rw h (go (le zero-float (cross (direction (edge-line (edge f (e .previous)))) (direction (edge-line e)))))
+    where
+      go : (z : Bool) → cond z s (rounds (hit-step f t slot (e .previous) p v) 128 s) ≡ rounds (hit-step f t slot (e .previous) p v) (cond (not z) 128 0) s
+      go true = sym (no-round (hit-step f t slot (e .previous) p v) s)
+      go false = refl
+
+  abbrev shrunk : Turn → EventSearch
+  shrunk u = search-of (b || u .sooner) (cond (u .sooner) slot k) (cond (u .sooner) (u .step) soon) d x y step
+
+  turned : Edge → Turn → EventSearch
+  turned e u = cond (u .lost) (look-stalled now) (rounds (hit-step f t slot (e .previous) (u .at) (u .velocity)) (cond (u .reflex) 128 0) (shrunk u))
+
+  with-length : Edge → Vertex → Length → EventSearch
+  with-length e NoVertex l = look-stalled now
+  with-length e (Moving p v) l = look-length f t slot e p v now l
+
+  looks : (e : Edge) (u : Vertex) → look-vertex f t slot e now u ≡ with-length e u (edge-length f slot t)
+  unfolding look-vertex with-length
+  looks e NoVertex = refl
+  looks e (Moving p v) = refl
+
+  turned-as : (before e : Edge) (u w : Vertex) → before ≡ edge f (e .previous) → with-length e u (length-between e u w) ≡ turned e (turn-from before e u w b soon)
+  unfolding with-length turned turn-from turn-by corner-of shrink length-between length-to look-length shrinking search-of
+  turned-as before e NoVertex w h = refl
+  turned-as before e (Moving p v) NoVertex h = refl
+  turned-as before e (Moving p v) (Moving p′ v′) h =
+      turns before e p v _ h
+      ∙ ap (rounds (hit-step f t slot (e .previous) p v) (cond (reflex (edge-line before) (edge-line e)) 128 0))
+      (shrinks-by (lt (dot (direction (edge-line e)) (sub v′ v)) zero-float)
+      (div (fmax (dot (direction (edge-line e)) (sub p′ p)) zero-float) (neg (dot (direction (edge-line e)) (sub v′ v)))))
+
+  live : (edge f slot) .alive ≡ true →
+      look-step f t slot now
+      ≡ turned (edge f slot)
+      (turn-at (edge f ((edge f slot) .previous)) (edge f slot) (edge f ((edge f ((edge f slot) .next)) .previous)) (edge f ((edge f slot) .next)) t b soon)
+  unfolding look-step look-at search-of turn-at start-of vertex vertex-of
+  live h =
+      ap (λ (z : Bool). cond z (look-vertex f t slot (edge f slot) now (vertex f slot t)) now) h
+      ∙ looks (edge f slot) (vertex f slot t)
+      ∙ ap (with-length (edge f slot) (vertex f slot t)) (length-is f slot t)
+      ∙ turned-as (edge f ((edge f slot) .previous)) (edge f slot) (vertex f slot t) (vertex f ((edge f slot) .next) t) refl
+
+  module _ (e : Edge) (ee : e ≡ edge f slot) where
+    pub dead-slot : e .alive ≡ false → look-step f t slot now ≡ now
+    unfolding look-step look-at search-of
+    dead-slot h = rw (← ee, h) refl
+
+    module _ (before after back : Edge) (u : Turn) (ea : e .alive ≡ true) (eb : before ≡ edge f (e .previous)) (en : after ≡ edge f (e .next)) (ek : back ≡ edge f (after .previous))
+        (eu : u ≡ turn-at before e back after t b soon) where
+      live-turn : look-step f t slot now ≡ turned e u
+      live-turn = rw (eu, ek, en, eb, ee) (live (ap (λ (z : Edge). z .alive) (sym ee) ∙ ea))
+
+      pub turn-lost : u .lost ≡ true → look-step f t slot now ≡ look-stalled now
+      unfolding turned
+      turn-lost l = live-turn ∙ rw l refl
+
+      pub turn-on : (k′ : ℕ) (soon′ : Float) → k′ ≡ cond (u .sooner) slot k → soon′ ≡ cond (u .sooner) (u .step) soon → u .lost ≡ false →
+          look-step f t slot now
+          ≡ rounds (hit-step f t slot (e .previous) (u .at) (u .velocity)) (cond (u .reflex) 128 0) (search-of (b || u .sooner) k′ soon′ d x y step)
+      unfolding turned
+      turn-on k′ soon′ ek′ es l = live-turn ∙ rw (l, ek′, es) refl

@@ -1,0 +1,276 @@
+// The search for the next event of the front: the soonest collapse and the soonest split.
+ghost use mathlib.Core.Path.{_≡_};
+ghost use Rattle.front.specs.NextEvent;
+ghost use Rattle.events.specs.Found;
+use front::Edge;
+use front::Event;
+use front::Length;
+use front::Line;
+use front::Vertex;
+use plane::PlanarPoint;
+
+// How a vertex comes to an edge's line: whether it does, and after which step.
+pub struct Coming {
+    pub ahead: bool,
+    pub step: f64,
+}
+
+// Whether a vertex hits an edge. `lost`: a vertex of the edge has no velocity.
+pub struct Struck {
+    pub lost: bool,
+    pub on: bool,
+}
+
+// Whether an edge is gone sooner than the soonest so far, and after which step. `lost`: an end has no velocity.
+pub struct Gone {
+    pub lost: bool,
+    pub sooner: bool,
+    pub step: f64,
+}
+
+// A live edge: whether and when it is gone, as in `Gone`; its start vertex, and whether the front turns right there.
+pub struct Turn {
+    pub lost: bool,
+    pub sooner: bool,
+    pub step: f64,
+    pub at: PlanarPoint,
+    pub velocity: PlanarPoint,
+    pub reflex: bool,
+}
+
+// A start vertex that moves.
+pub struct Corner {
+    pub at: PlanarPoint,
+    pub velocity: PlanarPoint,
+}
+
+// A vertex at p with velocity v against the line of an edge.
+pub fn approach(target: Edge, p: PlanarPoint, v: PlanarPoint, t: f64) -> Coming
+    ensures { λ r. ⌜ r ≡ Found.approach target p v t ⌝ }
+{
+    let line = target.line;
+    let n = lines::normal(line);
+    let closing = plane::dot(n, v) - 1.0;
+    let step = (line.c + t - plane::dot(n, p)) / closing;
+    Coming {
+        ahead: !(closing >= 0.0) & !(step < 0.0),
+        step: step,
+    }
+}
+
+// Whether p lies between two points along u, with the slack.
+pub fn within(u: PlanarPoint, p: PlanarPoint, from: PlanarPoint, to: PlanarPoint) -> bool
+    ensures { λ r. ⌜ r ≡ NextEvent.hit-within u p from to ⌝ }
+{
+    let past = plane::dot(u, plane::sub(p, from));
+    let left = plane::dot(u, plane::sub(to, p));
+    (past >= -Edge::ON_EDGE) & (left >= -Edge::ON_EDGE)
+}
+
+// Whether a vertex that has come to an edge's line at p hits the edge, given the edge's vertices there.
+pub fn strike(target: Edge, p: PlanarPoint, from: Vertex, to: Vertex) -> Struck
+    ensures { λ r. ⌜ r ≡ Found.strike target p from to ⌝ }
+{
+    let u = lines::direction(target.line);
+    match from {
+        Vertex::NoVertex => Struck {
+            lost: true,
+            on: false,
+        },
+        Vertex::Moving(a, v) => match to {
+            Vertex::NoVertex => Struck {
+                lost: true,
+                on: false,
+            },
+            Vertex::Moving(b, w) => Struck {
+                lost: false,
+                on: within(u, p, a, b),
+            },
+        },
+    }
+}
+
+// When an edge of this length is gone, if it shrinks.
+pub fn shrink(length: Length, shrinks: bool, soon: f64) -> Gone
+    ensures { λ r. ⌜ r ≡ Found.shrink length shrinks soon ⌝ }
+{
+    match length {
+        Length::NoLength => Gone {
+            lost: true,
+            sooner: false,
+            step: 0.0,
+        },
+        Length::Long(l, rate) => {
+            let step = math::max(l, 0.0) / -rate;
+            Gone {
+                lost: false,
+                sooner: (rate < 0.0) & (!shrinks | (step < soon)),
+                step: step,
+            }
+        }
+    }
+}
+
+pub fn corner_of(vertex: Vertex) -> Corner
+    ensures { λ r. ⌜ r ≡ Found.corner-of vertex ⌝ }
+{
+    let origin = PlanarPoint {
+        east: 0.0,
+        north: 0.0,
+    };
+    match vertex {
+        Vertex::NoVertex => Corner {
+            at: origin,
+            velocity: origin,
+        },
+        Vertex::Moving(p, v) => Corner { at: p, velocity: v },
+    }
+}
+
+// Whether the front turns right from one line to the next.
+pub fn reflex(a: Line, b: Line) -> bool
+    ensures { λ r. ⌜ r ≡ Found.reflex a b ⌝ }
+{
+    let turn = plane::cross(lines::direction(a), lines::direction(b));
+    !(turn >= 0.0)
+}
+
+// The event that was found: a split goes before a collapse only if it is sooner by more than the slack.
+pub fn event_of(
+    t: f64,
+    shrinks: bool,
+    gone: usize,
+    soon: f64,
+    splits: bool,
+    vertex: usize,
+    hit: usize,
+    step: f64,
+) -> Event
+    ensures { λ r. ⌜ r ≡ NextEvent.event-of t (Found.search-of shrinks gone soon splits vertex hit step) ⌝ }
+{
+    let slack = Edge::TIE * (1.0 + t);
+    let first = !shrinks | (step < soon - slack);
+    if splits & first {
+        return Event::Split(vertex, hit, step);
+    }
+    if shrinks {
+        return Event::Collapse(gone, soon);
+    }
+    Event::Never
+}
+
+// The start vertex of an edge at offset t, and its velocity, given the edge before it.
+pub fn start_of(before: Edge, e: Edge, t: f64) -> Vertex
+    ensures { λ r. ⌜ r ≡ Found.start-of before e t ⌝ }
+{
+    lines::vertex_by(before.line, e, t)
+}
+
+// A live edge e, with its next, `after`, and the edge before each of them.
+pub fn turn_at(
+    before: Edge,
+    e: Edge,
+    back: Edge,
+    after: Edge,
+    t: f64,
+    shrinks: bool,
+    soon: f64,
+) -> Turn
+    ensures { λ r. ⌜ r ≡ Found.turn-at before e back after t shrinks soon ⌝ }
+{
+    let from = start_of(before, e, t);
+    let to = start_of(back, after, t);
+    let gone = shrink(lines::length_between(e, from, to), shrinks, soon);
+    let corner = corner_of(from);
+    let at = corner.at;
+    let velocity = corner.velocity;
+    Turn {
+        lost: gone.lost,
+        sooner: gone.sooner,
+        step: gone.step,
+        at: at,
+        velocity: velocity,
+        reflex: reflex(before.line, e.line),
+    }
+}
+
+// A vertex at p with velocity v comes after a step to the line of an edge, `target`, with its next, `after`, and the edge before each of them.
+pub fn strike_at(
+    before: Edge,
+    target: Edge,
+    back: Edge,
+    after: Edge,
+    p: PlanarPoint,
+    v: PlanarPoint,
+    step: f64,
+    t: f64,
+) -> Struck
+    ensures { λ r. ⌜ r ≡ Found.strike-at before target back after p v step t ⌝ }
+{
+    let from = start_of(before, target, t + step);
+    let to = start_of(back, after, t + step);
+    strike(target, lines::moved_by(p, v, step), from, to)
+}
+
+// The soonest event after offset t. A vertex without a velocity ends the search.
+pub fn next_event(edges: [Edge; 128], t: f64) -> Event
+    ensures { λ r. ⌜ r ≡ NextEvent.next-event edges t ⌝ }
+{
+    let mut shrinks = false;
+    let mut gone = 0;
+    let mut soon = 0.0;
+    let mut splits = false;
+    let mut vertex = 0;
+    let mut hit = 0;
+    let mut step = 0.0;
+    let mut i = 0;
+    while i < 128 {
+        let slot = i;
+        i += 1;
+        let e = edges[slot];
+        if e.alive {
+            let p = e.previous;
+            let before = lines::edge_or(p < 128, edges[ring::choose(p < 128, p, 0)]);
+            let n = e.next;
+            let after = lines::edge_or(n < 128, edges[ring::choose(n < 128, n, 0)]);
+            let b = after.previous;
+            let back = lines::edge_or(b < 128, edges[ring::choose(b < 128, b, 0)]);
+            let turn = turn_at(before, e, back, after, t, shrinks, soon);
+            if turn.lost {
+                return Event::Stalled;
+            }
+            shrinks = shrinks | turn.sooner;
+            gone = ring::choose(turn.sooner, slot, gone);
+            soon = math::choose(turn.sooner, turn.step, soon);
+            let end = ring::choose(turn.reflex, 128, 0);
+            let mut j = 0;
+            while j < end {
+                let other = j;
+                j += 1;
+                let target = edges[other];
+                let c = approach(target, turn.at, turn.velocity, t);
+                if target.alive
+                    & ((other != slot) & (other != p))
+                    & c.ahead
+                    & !(splits & (c.step >= step))
+                {
+                    let q = target.previous;
+                    let first = lines::edge_or(q < 128, edges[ring::choose(q < 128, q, 0)]);
+                    let m = target.next;
+                    let last = lines::edge_or(m < 128, edges[ring::choose(m < 128, m, 0)]);
+                    let d = last.previous;
+                    let own = lines::edge_or(d < 128, edges[ring::choose(d < 128, d, 0)]);
+                    let h = strike_at(first, target, own, last, turn.at, turn.velocity, c.step, t);
+                    if h.lost {
+                        return Event::Stalled;
+                    }
+                    splits = splits | h.on;
+                    vertex = ring::choose(h.on, slot, vertex);
+                    hit = ring::choose(h.on, other, hit);
+                    step = math::choose(h.on, c.step, step);
+                }
+            }
+        }
+    }
+    event_of(t, shrinks, gone, soon, splits, vertex, hit, step)
+}

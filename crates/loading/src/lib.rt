@@ -1,0 +1,141 @@
+// The rings of a shape are loaded into the front, edge by edge.
+ghost use mathlib.Core.Path.{_≡_};
+ghost use Prim.Native.Nat.{_+_, _^_, _<_};
+ghost use Rattle.front.specs.Loading;
+ghost use Rattle.loading.specs.Next;
+use error::Refusal;
+use front::Edge;
+use front::Line;
+use front::Loaded;
+use front::Through;
+use plane::PlanarPoint;
+
+// The front before anything is loaded.
+pub fn no_front() -> [Edge; 128]
+    ensures { λ r. ⌜ r ≡ Loading.no-front ⌝ }
+{
+    [Edge::UNUSED; 128]
+}
+
+pub fn loaded_nothing() -> Loaded
+    ensures { λ r. ⌜ r ≡ Loading.loaded-nothing ⌝ }
+{
+    Loaded {
+        edges: no_front(),
+        used: 0,
+        rings: 0,
+        refusal: Refusal::Granted,
+    }
+}
+
+// Vertex k of a ring that is walked forwards or backwards, relative to the origin.
+pub fn load_vertex(ps: &[f64], n: usize, back: bool, origin: PlanarPoint, k: usize) -> PlanarPoint
+    ensures { λ r. ⌜ r ≡ Loading.load-vertex (now (ps .entry)) n back origin k ⌝ }
+{
+    let at = ring::choose(back, ring::less(ring::less(n, 1), k), k);
+    plane::sub(ring::vertex_at(ps, at), origin)
+}
+
+// Edge k of a ring of n, whose first edge stands in the slot `first`.
+pub(crate) fn loaded_edge(l: Line, first: usize, n: usize, k: usize, a: PlanarPoint) -> Edge
+    requires { ⌜ k < n ⌝ }
+    requires { ⌜ first + n < 2 ^ 64 ⌝ }
+    ensures { λ r. ⌜ r ≡ Loading.loaded-edge l first n k a ⌝ }
+{
+    let before = ring::choose(k == 0, ring::less(n, 1), ring::less(k, 1));
+    let after = ring::following(n, k);
+    Edge {
+        line: l,
+        previous: first + before,
+        next: first + after,
+        alive: true,
+        start: a,
+        since: 0.0,
+    }
+}
+
+// One ring of n vertices, into the slots after those in use.
+pub(crate) fn load_ring(
+    ps: &[f64],
+    n: usize,
+    back: bool,
+    origin: PlanarPoint,
+    d: f64,
+    s: Loaded,
+) -> Loaded
+    requires { ⌜ s .used + n < 2 ^ 64 ⌝ }
+    requires { ⌜ s .rings + 1 < 2 ^ 64 ⌝ }
+    ensures { λ r. ⌜ r ≡ Loading.load-ring (now (ps .entry)) n back origin d s ⌝ }
+{
+    let mut edges = s.edges;
+    let first = s.used;
+    let rings = s.rings + 1;
+    let refusal = s.refusal;
+    if !refusal.granted() {
+        return Loaded {
+            edges: edges,
+            used: first,
+            rings: rings,
+            refusal: refusal,
+        };
+    }
+    let mut k = 0;
+    while k < n {
+        let a = load_vertex(ps, n, back, origin, k);
+        let b = load_vertex(ps, n, back, origin, ring::following(n, k));
+        let line = lines::through(a, b);
+        let used = first + k;
+        match line {
+            Through::NoLine => {
+                return Loaded {
+                    edges: edges,
+                    used: used,
+                    rings: rings,
+                    refusal: Refusal::Collapses(d),
+                };
+            }
+            Through::Along(l) => {
+                if 128 <= used {
+                    return Loaded {
+                        edges: edges,
+                        used: used,
+                        rings: rings,
+                        refusal: Refusal::Slots(used + (n - k)),
+                    };
+                }
+                edges[used] = loaded_edge(l, first, n, k, a);
+            }
+        }
+        k += 1;
+    }
+    Loaded {
+        edges: edges,
+        used: first + n,
+        rings: rings,
+        refusal: Refusal::Granted,
+    }
+}
+
+// The front of a shape's outer ring.
+pub fn load_outer(ps: &[f64], n: usize, back: bool, origin: PlanarPoint, d: f64) -> Loaded
+    ensures { λ r. ⌜ r ≡ Loading.load-ring (now (ps .entry)) n back origin d Loading.loaded-nothing ⌝ }
+{
+    load_ring(ps, n, back, origin, d, loaded_nothing())
+}
+
+// One ring more. Numbers that no front has are refused.
+pub fn load_next(ps: &[f64], n: usize, back: bool, origin: PlanarPoint, d: f64, s: Loaded) -> Loaded
+    ensures { λ r. ⌜ r ≡ Next.load-next (now (ps .entry)) n back origin d s ⌝ }
+{
+    if (s.used < 129) & (s.rings < 129) & (n < 129) {
+        load_ring(ps, n, back, origin, d, s)
+    } else {
+        let edges = s.edges;
+        Loaded {
+            edges: edges,
+            used: s.used,
+            rings: s.rings,
+            refusal: Refusal::Shape,
+        }
+    }
+}

@@ -1,0 +1,124 @@
+-- An offset of an outline, step by step, as the code takes them. Assumes nothing.
+use Prim.Native.Nat.{ℕ}
+use mathlib.Core.Path.{_≡_, refl, sym, ap, _∙_, subst}
+use mathlib.Core.Bool.{Bool, true, false, false≢true, cond, not, _&&_}
+use mathlib.Core.List.{List}
+use lib.Ieee.{Float, eq}
+use Rattle.error.specs.declared.Refusal.{Refusal}
+use Rattle.error.specs.declared.Refusal.the-variants.{Granted, Shape, Splits, Collapses}
+use Rattle.error.specs.Refusals.{values, number, granted}
+use Rattle.plane.specs.declared.PlanarPoint.{PlanarPoint}
+use Rattle.polygon.specs.declared.Outline.{Outline}
+use Rattle.polygon.specs.declared.NewOutline.{NewOutline}
+use Rattle.front.specs.declared.Loaded.{Loaded}
+use Rattle.front.specs.declared.Sweep.{Sweep}
+use Rattle.offset.specs.declared.Offset.{Offset}
+use Rattle.offset.specs.declared.Pieces.{Pieces}
+use Rattle.math.specs.Number
+use Rattle.math.specs.Number.{zero-float}
+use Rattle.ring.specs.Ring.{vertex-at}
+use Rattle.measures.specs.Measures.{extent}
+use Rattle.meet.specs.Meet.{rings-meet}
+use Rattle.polygon.specs.Outlines.{no-outline, outline-refused, offset-tolerance, proper, ask, ask-ring}
+use Rattle.front.specs.Loading.{load-ring, loaded-nothing}
+use Rattle.front.specs.Sweeps.{offset-rings}
+use Rattle.offset.specs.Offsets
+use Rattle.offset.specs.Offsets.{check-distance, pieces, keeps-clear, offset-clear, offset-found, offset-finished, offset-swept, offset-counted, offset-plain, sweep, offset-from, offset-by, offset}
+use Rattle.offset.specs.Answers.{AnswerDemand}
+use Rattle.offset.proofs.Answers.{offset-demand}
+
+-- what a test says of a bool that it negates
+pub told-no : (g h : Bool) → g ≡ h → not g ≡ true → h ≡ false
+told-no true h e t = absurd (false≢true t)
+told-no false h e t = sym e
+
+pub told-yes : (g h : Bool) → g ≡ h → not g ≡ false → h ≡ true
+told-yes true h e t = sym e
+told-yes false h e t = absurd (false≢true (sym t))
+
+-- 21 is asked first
+asked-yes : (b : Bool) (c : Refusal) → granted (ask b c) ≡ true → (b ≡ true) × (granted c ≡ true)
+unfolding ask granted number values
+asked-yes true c h = (refl, h)
+asked-yes false c h = absurd (false≢true h)
+
+asked-no : (b : Bool) (c : Refusal) (moved : Offset) → granted (ask b c) ≡ false → offset-plain (ask b c) no-outline ≡ cond b (cond (granted c) moved (offset-plain c no-outline)) (offset-plain Shape no-outline)
+unfolding ask
+asked-no true c m h = rw h refl
+asked-no false c m h = refl
+
+module _ (o : Outline) (outward : Bool) (d : Float) where
+  -- ---- the piece that is left
+  module _ (tolerance : Float) where
+    pub clear-yes :
+        (q : Outline) (b : Bool) → b ≡ (keeps-clear outward (Number.sub d tolerance) (o .points) (o .count) (q .points) (q .count) && not (rings-meet (q .points) (q .count) (o .points) (o .count))) →
+        b ≡ true → record { refusal = Granted; shape = q } ≡ offset-clear o outward d tolerance q
+    unfolding offset-clear
+    clear-yes q b e h = rw (sym e ∙ h) refl
+
+    pub clear-no :
+        (q : Outline) (b : Bool) (a : NewOutline) → b ≡ (keeps-clear outward (Number.sub d tolerance) (o .points) (o .count) (q .points) (q .count) && not (rings-meet (q .points) (q .count) (o .points) (o .count))) →
+        b ≡ false → a ≡ outline-refused (Splits d) → a ≡ offset-clear o outward d tolerance q
+    unfolding offset-clear
+    clear-no q b a e h i = rw (sym e ∙ h) i
+
+    module _ (p : Pieces) (a : NewOutline) where
+      pub found-refused : granted (p .refusal) ≡ false → a ≡ outline-refused (p .refusal) → a ≡ offset-found o outward d tolerance p
+      unfolding offset-found
+      found-refused h i = rw h i
+
+      pub found-piece : granted (p .refusal) ≡ true → p .found ≡ true → a ≡ offset-clear o outward d tolerance (p .shape) → a ≡ offset-found o outward d tolerance p
+      unfolding offset-found
+      found-piece h f i = rw (h, f) i
+
+      pub found-none : granted (p .refusal) ≡ true → p .found ≡ false → a ≡ outline-refused (Collapses d) → a ≡ offset-found o outward d tolerance p
+      unfolding offset-found
+      found-none h f i = rw (h, f) i
+
+  -- ---- the front at the distance
+  module _ (s : Sweep) (a : NewOutline) where
+    pub swept-yes :
+        (e t : Float) (v : PlanarPoint) (p : Pieces) → granted (s .refusal) ≡ true → e ≡ extent (o .points) (o .count) → t ≡ offset-tolerance d e → v ≡ vertex-at (o .points) 0 →
+        p ≡ pieces (s .edges) v outward d t → a ≡ offset-found o outward d t p → a ≡ offset-swept o outward d s
+    unfolding offset-swept offset-finished
+    swept-yes e t v p h i j k l m = rw h (m ∙ rw (l, j, i, k) refl)
+
+    pub swept-no : granted (s .refusal) ≡ false → a ≡ outline-refused (s .refusal) → a ≡ offset-swept o outward d s
+    unfolding offset-swept
+    swept-no h i = rw h i
+
+  pub counted : (s : Sweep) (a : NewOutline) → a ≡ offset-swept o outward d s →
+      record { refusal = a .refusal; shape = a .shape; collapses = s .collapses; divides = s .divides; joins = s .joins } ≡ offset-from o outward d s
+  unfolding offset-from offset-counted
+  counted s a e = ap (λ (x : NewOutline). offset-counted x s) e
+
+  pub swept-from : (v : PlanarPoint) (l : Loaded) (s : Sweep) → v ≡ vertex-at (o .points) 0 → l ≡ load-ring (o .points) (o .count) outward v d loaded-nothing → s ≡ offset-rings d l → s ≡ sweep o outward d
+  unfolding sweep
+  swept-from v l s e f g = g ∙ rw (f, e) refl
+
+  -- ---- 21, 13 and 14, and an offset by 0
+  module _ (c r : Refusal) (e : c ≡ check-distance d) (f : r ≡ ask-ring (o .points) (o .count) c) (a : Offset) where
+    asked : ask (proper 128 (o .points) (o .count)) (check-distance d) ≡ r
+    unfolding ask-ring
+    asked = ap (ask (proper 128 (o .points) (o .count))) (sym e) ∙ sym f
+
+    pub plain : (n : Outline) → granted r ≡ false → n ≡ no-outline → a ≡ offset-plain r n → a ≡ offset o outward d
+    unfolding offset offset-by
+    plain n h i j =
+        j ∙ ap (offset-plain r) i ∙ ap (λ (x : Refusal). offset-plain x no-outline) (sym asked) ∙
+        asked-no (proper 128 (o .points) (o .count)) (check-distance d) (cond (eq d zero-float) (offset-plain Granted o) (offset-from o outward d (sweep o outward d))) (ap granted asked ∙ h)
+
+    both : granted r ≡ true → (proper 128 (o .points) (o .count) ≡ true) × (granted (check-distance d) ≡ true)
+    both h = asked-yes (proper 128 (o .points) (o .count)) (check-distance d) (ap granted asked ∙ h)
+
+    pub unmoved : granted r ≡ true → eq d zero-float ≡ true → a ≡ offset-plain Granted o → a ≡ offset o outward d
+    unfolding offset offset-by
+    unmoved h z i = rw (both h .0, both h .1, z) i
+
+    pub moved : (s : Sweep) → granted r ≡ true → eq d zero-float ≡ false → s ≡ sweep o outward d → a ≡ offset-from o outward d s → a ≡ offset o outward d
+    unfolding offset offset-by
+    moved s h z i j = rw (both h .0, both h .1, z) (j ∙ ap (offset-from o outward d) i)
+
+  -- ---- demand 3 of what is handed back
+  pub demanded : (a : Offset) → a ≡ offset o outward d → proper 128 (o .points) (o .count) ≡ true → AnswerDemand (o .count) 1 (a .refusal) (a .collapses) (a .divides) (a .joins)
+  demanded a e h = subst (λ (x : Offset). AnswerDemand (o .count) 1 (x .refusal) (x .collapses) (x .divides) (x .joins)) (sym e) (offset-demand o outward d h)

@@ -1,0 +1,16 @@
+-- `offsetting::inset` meets its contract. Assumes nothing.
+use Rattle.offset.specs.Offsets
+use Rattle.offsetting.proofs.Steps.{demanded}
+use borrow.Author.Needs.{needs}
+use Rattle.offsetting.proofs.inset.Statement.{statement}
+use Rattle.offsetting.proofs.inset.Tie as tie
+
+offset-requires : tie.Need-offset-requires
+offset-requires c κs = search needs
+
+returns : tie.Need-returns
+unfolding Offsets.inset
+returns c = (c .offset .ensures, demanded _ _ _ _ (c .offset .ensures))
+
+pub inset-spec : {M : Type 1} → statement M
+inset-spec = tie.close (tie.spec offset-requires returns)

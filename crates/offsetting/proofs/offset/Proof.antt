@@ -1,0 +1,54 @@
+-- `offsetting::offset` meets its contract. Assumes nothing.
+use Rattle.offsetting.proofs.Steps.{told-no, told-yes, plain, unmoved, moved}
+use borrow.Author.Needs.{needs}
+use Rattle.offsetting.proofs.offset.Statement.{statement}
+use Rattle.offsetting.proofs.offset.Tie as tie
+
+check-distance-requires : tie.Need-check-distance-requires
+check-distance-requires c κs = search needs
+
+ask-ring-requires : tie.Need-ask-ring-requires
+ask-ring-requires c κs = search needs
+
+granted-requires : tie.Need-granted-requires
+granted-requires c κs = search needs
+
+no-outline-requires : tie.Need-no-outline-requires
+no-outline-requires c κs = search needs
+
+offset-plain-requires : tie.Need-offset-plain-requires
+offset-plain-requires c κs = search needs
+
+returns : tie.Need-returns
+returns c = plain _ _ _ _ _ (c .before .before .before .before .before .check-distance .ensures) (c .before .before .before .before .ask-ring .ensures) _ _ (told-no _ _ (c .before .before .before .granted .ensures) (c .before .before .if1 .taken)) (c .before .no-outline .ensures) (c .offset-plain .ensures)
+
+offset-plain-requires-2 : tie.Need-offset-plain-requires-2
+offset-plain-requires-2 c κs = search needs
+
+returns-2 : tie.Need-returns-2
+returns-2 c = unmoved _ _ _ _ _ (c .before .before .before .before .before .check-distance .ensures) (c .before .before .before .before .ask-ring .ensures) _ (told-yes _ _ (c .before .before .before .granted .ensures) (c .before .before .if1 .left)) (c .before .if2 .taken) (c .offset-plain2 .ensures)
+
+sweep-requires : tie.Need-sweep-requires
+sweep-requires c κs = search needs
+
+offset-from-requires : tie.Need-offset-from-requires
+offset-from-requires c κs = search needs
+
+returns-3 : tie.Need-returns-3
+returns-3 c = moved _ _ _ _ _ (c .before .before .before .before .before .before .check-distance .ensures) (c .before .before .before .before .before .ask-ring .ensures) _ _ (told-yes _ _ (c .before .before .before .before .granted .ensures) (c .before .before .before .if1 .left)) (c .before .before .if2 .left) (c .before .sweep .ensures) (c .offset-from .ensures)
+
+pub offset-spec : {M : Type 1} → statement M
+offset-spec =
+    tie.close
+    (tie.spec
+    check-distance-requires
+    ask-ring-requires
+    granted-requires
+    no-outline-requires
+    offset-plain-requires
+    returns
+    offset-plain-requires-2
+    returns-2
+    sweep-requires
+    offset-from-requires
+    returns-3)

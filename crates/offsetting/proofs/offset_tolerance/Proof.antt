@@ -1,0 +1,12 @@
+-- `offsetting::offset_tolerance` meets its contract. Assumes nothing.
+use Rattle.polygon.specs.Outlines
+use mathlib.Core.Path.{refl}
+use Rattle.offsetting.proofs.offset_tolerance.Statement.{statement}
+use Rattle.offsetting.proofs.offset_tolerance.Tie as tie
+
+returns : tie.Need-returns
+unfolding Outlines.offset-tolerance
+returns c = refl
+
+pub offset-tolerance-spec : {M : Type 1} → statement M
+offset-tolerance-spec = tie.close (tie.spec returns)

@@ -1,0 +1,21 @@
+-- `offsetting::sweep` meets its contract. Assumes nothing.
+use Rattle.offsetting.proofs.Steps.{swept-from}
+use borrow.Author.Needs.{needs}
+use Rattle.offsetting.proofs.sweep.Statement.{statement}
+use Rattle.offsetting.proofs.sweep.Tie as tie
+
+vertex-at-requires : tie.Need-vertex-at-requires
+vertex-at-requires c κs = search needs
+
+load-outer-requires : tie.Need-load-outer-requires
+load-outer-requires c κs = search needs
+
+offset-rings-requires : tie.Need-offset-rings-requires
+offset-rings-requires c κs = search needs
+
+returns : tie.Need-returns
+returns c = swept-from _ _ _ _ _ _ (c .before .before .before .before .before .vertex-at .ensures) (c .before .load-outer .ensures) (c .offset-rings .ensures)
+
+pub sweep-spec : {M : Type 1} → statement M
+sweep-spec =
+    tie.close (tie.spec vertex-at-requires load-outer-requires offset-rings-requires returns)

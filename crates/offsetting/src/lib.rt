@@ -1,0 +1,153 @@
+// The inset and the outset of an outline.
+ghost use mathlib.Core.Path.{_≡_};
+ghost use mathlib.Core.Bool.{true};
+ghost use Rattle.polygon.specs.Outlines;
+ghost use Rattle.offset.specs.Answers;
+ghost use Rattle.offset.specs.Offsets;
+use error::Refusal;
+use front::Sweep;
+use offset::Offset;
+use offset::Pieces;
+use polygon::NewOutline;
+use polygon::Outline;
+use polygon::entry;
+use polygon::store;
+
+const MAX_DISTANCE: f64 = 1e12;
+
+const OFFSET_TOLERANCE: f64 = 1e-9;
+
+// Questions 13 and 14.
+pub fn check_distance(d: f64) -> Refusal
+    ensures { λ r. ⌜ r ≡ Offsets.check-distance d ⌝ }
+{
+    let sign = error::choose(d < 0.0, Refusal::Negative(d), Refusal::Granted);
+    error::choose(math::finite(d) & (d <= MAX_DISTANCE), sign, Refusal::Far)
+}
+
+// The slack of the check that every offset vertex keeps the full distance.
+pub fn offset_tolerance(d: f64, extent: f64) -> f64
+    ensures { λ r. ⌜ r ≡ Outlines.offset-tolerance d extent ⌝ }
+{
+    OFFSET_TOLERANCE * (1.0 + d + extent)
+}
+
+// The piece that is left keeps clear of the source.
+pub fn offset_clear(o: Outline, outward: bool, d: f64, tolerance: f64, q: Outline) -> NewOutline
+    ensures { λ r. ⌜ r ≡ Offsets.offset-clear o outward d tolerance q ⌝ }
+{
+    if clear::stays_clear(
+        &o.points,
+        o.count,
+        &q.points,
+        q.count,
+        outward,
+        d - tolerance,
+    ) {
+        NewOutline {
+            refusal: Refusal::Granted,
+            shape: q,
+        }
+    } else {
+        store::refused(Refusal::Splits(d))
+    }
+}
+
+// What the pieces come to.
+pub fn offset_found(o: Outline, outward: bool, d: f64, tolerance: f64, p: Pieces) -> NewOutline
+    ensures { λ r. ⌜ r ≡ Offsets.offset-found o outward d tolerance p ⌝ }
+{
+    let refusal = p.refusal;
+    if !refusal.granted() {
+        return store::refused(refusal);
+    }
+    if p.found {
+        let q = p.shape;
+        return offset_clear(o, outward, d, tolerance, q);
+    }
+    store::refused(Refusal::Collapses(d))
+}
+
+// What the front that has come to the distance gives.
+pub fn offset_swept(o: Outline, outward: bool, d: f64, s: Sweep) -> NewOutline
+    ensures { λ r. ⌜ r ≡ Offsets.offset-swept o outward d s ⌝ }
+{
+    let refusal = s.refusal;
+    if refusal.granted() {
+        let tolerance = offset_tolerance(d, measures::extent(&o.points, o.count));
+        let origin = ring::vertex_at(&o.points, 0);
+        let edges = s.edges;
+        let found = pieces::pieces(edges, origin, outward, d, tolerance);
+        offset_found(o, outward, d, tolerance, found)
+    } else {
+        store::refused(refusal)
+    }
+}
+
+// An answer and the events that the sweep completed.
+pub fn offset_from(o: Outline, outward: bool, d: f64, s: Sweep) -> Offset
+    ensures { λ r. ⌜ r ≡ Offsets.offset-from o outward d s ⌝ }
+{
+    let a = offset_swept(o, outward, d, s);
+    let refusal = a.refusal;
+    let shape = a.shape;
+    Offset {
+        refusal: refusal,
+        shape: shape,
+        collapses: s.collapses,
+        divides: s.divides,
+        joins: s.joins,
+    }
+}
+
+// The front's work for an outline.
+pub fn sweep(o: Outline, outward: bool, d: f64) -> Sweep
+    ensures { λ r. ⌜ r ≡ Offsets.sweep o outward d ⌝ }
+{
+    let origin = ring::vertex_at(&o.points, 0);
+    let loaded = loading::load_outer(&o.points, o.count, outward, origin, d);
+    sweeping::offset_rings(d, loaded)
+}
+
+// An answer without a sweep.
+pub fn offset_plain(r: Refusal, o: Outline) -> Offset
+    ensures { λ x. ⌜ x ≡ Offsets.offset-plain r o ⌝ }
+{
+    Offset {
+        refusal: r,
+        shape: o,
+        collapses: 0,
+        divides: 0,
+        joins: 0,
+    }
+}
+
+// 21, then 13 and 14. An offset by 0 or −0 gives the source itself.
+pub fn offset(o: Outline, outward: bool, d: f64) -> Offset
+    ensures { λ r. ⌜ r ≡ Offsets.offset o outward d ⌝ }
+{
+    let r = entry::ask_ring(&o.points, o.count, check_distance(d));
+    if !r.granted() {
+        return offset_plain(r, store::no_outline());
+    }
+    if d == 0.0 {
+        return offset_plain(Refusal::Granted, o);
+    }
+    offset_from(o, outward, d, sweep(o, outward, d))
+}
+
+// The outline shrunk by a distance, with its completed events: demand 3's bounds hold of what is handed back.
+pub fn inset(o: Outline, d: f64) -> Offset
+    ensures is { λ r. ⌜ r ≡ Offsets.inset o d ⌝ }
+    ensures bounded { λ r. ⌜ (Outlines.proper 128 (o .points) (o .count) ≡ true → Answers.AnswerDemand (o .count) 1 (r .refusal) (r .collapses) (r .divides) (r .joins)) ⌝ }
+{
+    offset(o, false, d)
+}
+
+// The outline grown by a distance, likewise.
+pub fn outset(o: Outline, d: f64) -> Offset
+    ensures is { λ r. ⌜ r ≡ Offsets.outset o d ⌝ }
+    ensures bounded { λ r. ⌜ (Outlines.proper 128 (o .points) (o .count) ≡ true → Answers.AnswerDemand (o .count) 1 (r .refusal) (r .collapses) (r .divides) (r .joins)) ⌝ }
+{
+    offset(o, true, d)
+}

@@ -1,0 +1,24 @@
+-- `pieces::vanished` meets its contract. Assumes nothing.
+use Rattle.pieces.proofs.Comes.{vanished-by, not-vanished}
+use borrow.Author.Needs.{needs}
+use Rattle.pieces.proofs.vanished.Statement.{statement}
+use Rattle.pieces.proofs.vanished.Tie as tie
+
+degenerate-requires : tie.Need-degenerate-requires
+degenerate-requires c κs = search needs
+
+signed-area-requires : tie.Need-signed-area-requires
+signed-area-requires c κs = search needs
+
+abs-requires : tie.Need-abs-requires
+abs-requires c κs = search needs
+
+returns : tie.Need-returns
+returns c = vanished-by _ _ _ _ _ (c .before .before .before .degenerate .ensures) _ _ (c .before .before .if1 .taken) (c .before .signed-area .ensures) (c .abs .ensures)
+
+returns-2 : tie.Need-returns-2
+returns-2 c = not-vanished _ _ _ _ _ (c .before .degenerate .ensures) (c .if1 .left)
+
+pub vanished-spec : {M : Type 1} → statement M
+vanished-spec =
+    tie.close (tie.spec degenerate-requires signed-area-requires abs-requires returns returns-2)

@@ -1,0 +1,165 @@
+// The split of a front: the vertex that runs into an edge cuts it in two, with a copy of the edge in a free slot.
+ghost use mathlib.Core.Path.{_≡_};
+ghost use lib.ListN.{set};
+ghost use Rattle.front.specs.Splitting;
+ghost use Rattle.front.specs.Sweeps;
+ghost use Rattle.splitting.specs.Begun;
+use error::Refusal;
+use front::Edge;
+use front::Sweep;
+use front::Vertex;
+use plane::PlanarPoint;
+
+// The first slot that is not alive, and 128 where there is none.
+pub fn free(edges: [Edge; 128]) -> usize
+    ensures { λ r. ⌜ r ≡ Splitting.free edges ⌝ }
+{
+    let mut k = 0;
+    while k < 128 {
+        let e = edges[k];
+        if !e.alive {
+            return k;
+        }
+        k += 1;
+    }
+    k
+}
+
+// Whether two edges are in one ring: a walk from the first passes the second before it comes round.
+pub fn one_ring(edges: [Edge; 128], a: usize, b: usize) -> bool
+    ensures { λ r. ⌜ r ≡ Splitting.one-ring edges a b ⌝ }
+{
+    let mut at = a;
+    let mut k = 0usize;
+    while k < 128 {
+        k += 1;
+        let e = lines::edge_or(at < 128, edges[ring::choose(at < 128, at, 0)]);
+        at = e.next;
+        if (at == a) | (at == b) {
+            return at != a;
+        }
+    }
+    false
+}
+
+// The copy of the edge that is hit starts at the vertex, after the edge before it.
+pub fn copy_of(hit: Edge, before: usize, p: PlanarPoint, t: f64) -> Edge
+    ensures { λ r. ⌜ r ≡ Splitting.copy-of hit before p t ⌝ }
+{
+    let line = hit.line;
+    Edge {
+        line,
+        previous: before,
+        next: hit.next,
+        alive: true,
+        start: p,
+        since: t,
+    }
+}
+
+// The front with an edge in a slot; a store out of it is left out.
+pub fn set_edge(edges: [Edge; 128], k: usize, e: Edge) -> [Edge; 128]
+    ensures { λ r. ⌜ r ≡ set edges k e ⌝ }
+{
+    let mut f = edges;
+    if k < 128 {
+        f[k] = e;
+    }
+    f
+}
+
+// The vertex follows the edge that it hits.
+pub fn cut(edges: [Edge; 128], v: usize, e: usize, p: PlanarPoint, t: f64) -> [Edge; 128]
+    ensures { λ r. ⌜ r ≡ Splitting.cut edges v e p t ⌝ }
+{
+    let linked = edges::set_previous(edges, v, e);
+    edges::set_start(linked, v, p, t)
+}
+
+// One ring keeps the edge `hit`, at e, and runs on to the vertex; the other takes the copy after `before`, the edge before the vertex.
+pub fn split_linked(
+    edges: [Edge; 128],
+    v: usize,
+    e: usize,
+    copy: usize,
+    before: usize,
+    hit: Edge,
+    p: PlanarPoint,
+    t: f64,
+) -> [Edge; 128]
+    ensures { λ r. ⌜ r ≡ Splitting.split-linked edges v e copy before hit p t ⌝ }
+{
+    let after = hit.next;
+    let taken = set_edge(edges, copy, copy_of(hit, before, p, t));
+    let led = edges::set_next(taken, before, copy);
+    let closed = edges::set_previous(led, after, copy);
+    let run = edges::set_next(closed, e, v);
+    cut(run, v, e, p, t)
+}
+
+// A front with nothing counted yet that a refusal ends.
+pub fn refused(edges: [Edge; 128], travelled: f64, r: Refusal) -> Sweep
+    ensures { λ s. ⌜ s ≡ Sweeps.sweep-refused (Begun.begun edges travelled) r ⌝ }
+{
+    Sweep {
+        edges,
+        travelled,
+        collapses: 0,
+        divides: 0,
+        joins: 0,
+        ended: false,
+        refusal: r,
+    }
+}
+
+// A split front, and whether the split divided a ring or joined two.
+pub fn parted(edges: [Edge; 128], t: f64, together: bool) -> Sweep
+    ensures { λ s. ⌜ s ≡ Sweeps.swept-split (Begun.begun edges t) t together edges ⌝ }
+{
+    Sweep {
+        edges,
+        travelled: t,
+        collapses: 0,
+        divides: ring::choose(together, 1, 0),
+        joins: ring::choose(together, 0, 1),
+        ended: false,
+        refusal: Refusal::Granted,
+    }
+}
+
+// A full front of 128 slots cannot split.
+pub fn split_into(
+    edges: [Edge; 128],
+    travelled: f64,
+    v: usize,
+    e: usize,
+    p: PlanarPoint,
+    t: f64,
+    together: bool,
+    copy: usize,
+) -> Sweep
+    ensures { λ s. ⌜ s ≡ Sweeps.split-into (Begun.begun edges travelled) edges v e p t together copy ⌝ }
+{
+    if copy < 128 {
+        let at = edges::edge_at(edges, v);
+        let hit = edges::edge_at(edges, e);
+        let f = split_linked(edges, v, e, copy, at.previous, hit, p, t);
+        parted(f, t, together)
+    } else {
+        refused(edges, travelled, Refusal::Slots(129))
+    }
+}
+
+// The start vertex of the edge at v runs into the edge at e.
+pub fn split(d: f64, edges: [Edge; 128], travelled: f64, v: usize, e: usize, t: f64) -> Sweep
+    ensures { λ s. ⌜ s ≡ Sweeps.split d (Begun.begun edges travelled) edges v e t ⌝ }
+{
+    let vertex = edges::vertex(edges, v, t);
+    match vertex {
+        Vertex::NoVertex => refused(edges, travelled, Refusal::Splits(d)),
+        Vertex::Moving(p, _) => {
+            let together = one_ring(edges, v, e);
+            split_into(edges, travelled, v, e, p, t, together, free(edges))
+        }
+    }
+}

@@ -1,0 +1,5 @@
+pub mod Slots
+pub mod Small
+pub mod Found
+pub mod Dropped
+pub mod Steps

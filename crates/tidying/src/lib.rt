@@ -1,0 +1,311 @@
+// Tidying: rings too small, straight vertices, spikes and edges of no length are taken out of the front, one after the other.
+ghost use mathlib.Core.Path.{_≡_};
+ghost use mathlib.Core.Bool.{cond};
+ghost use Rattle.front.specs.Edges;
+ghost use Rattle.front.specs.Tidying;
+ghost use Rattle.loops.specs.Loop.{rounds};
+ghost use Rattle.tidying.specs.Findings;
+use front::Edge;
+use front::Front;
+use front::Length;
+use front::Place;
+use front::Tidy;
+use front::Vertex;
+use plane::PlanarPoint;
+
+// An edge of no length that does not grow.
+pub fn empty(t: f64, l: f64, rate: f64) -> bool
+    ensures { λ r. ⌜ r ≡ Tidying.empty t l rate ⌝ }
+{
+    (l <= Edge::ON_EDGE * (1.0 + t)) & (rate <= Edge::TIE)
+}
+
+// Two directions that face opposite ways, and two that face the same way.
+pub fn opposed(u: PlanarPoint, w: PlanarPoint) -> bool
+    ensures { λ r. ⌜ r ≡ Tidying.opposed u w ⌝ }
+{
+    1.0 + plane::dot(u, w) < Edge::OPPOSITE
+}
+
+pub fn same_way(u: PlanarPoint, w: PlanarPoint) -> bool
+    ensures { λ r. ⌜ r ≡ Tidying.same-way u w ⌝ }
+{
+    (math::abs(plane::cross(u, w)) < Edge::PARALLEL) & (0.0 < plane::dot(u, w))
+}
+
+// A ring of fewer than three edges, by the edge at a slot and its next.
+pub fn short(slot: usize, e: Edge, after: Edge) -> bool
+    ensures { λ r. ⌜ r ≡ Findings.short slot e after ⌝ }
+{
+    (e.next == slot) | (after.next == slot)
+}
+
+pub fn tidy_length(slot: usize, t: f64, length: Length) -> Tidy
+    ensures { λ r. ⌜ r ≡ Tidying.tidy-length slot t length ⌝ }
+{
+    match length {
+        Length::NoLength => Tidy::Settled,
+        Length::Long(l, rate) => {
+            if empty(t, l, rate) {
+                Tidy::Empty(slot)
+            } else {
+                Tidy::Settled
+            }
+        }
+    }
+}
+
+// What is to be taken out at a slot in a ring of three edges or more, from its edge and the one before it, and its next and the one before that.
+pub fn turn_between(slot: usize, t: f64, before: Edge, e: Edge, beside: Edge, after: Edge) -> Tidy
+    ensures { λ r. ⌜ r ≡ Findings.turn-between slot t before e beside after ⌝ }
+{
+    let u = lines::direction(e.line);
+    let w = lines::direction(after.line);
+    if opposed(u, w) {
+        return Tidy::Spike(slot);
+    }
+    if same_way(u, w) {
+        return Tidy::Straight(slot);
+    }
+    let from = lines::vertex_by(before.line, e, t);
+    let to = lines::vertex_by(beside.line, after, t);
+    let length = lines::length_between(e, from, to);
+    tidy_length(slot, t, length)
+}
+
+pub fn tidy_between(slot: usize, t: f64, before: Edge, e: Edge, beside: Edge, after: Edge) -> Tidy
+    ensures { λ r. ⌜ r ≡ Findings.tidy-between slot t before e beside after ⌝ }
+{
+    if short(slot, e, after) {
+        Tidy::SmallRing(slot)
+    } else {
+        turn_between(slot, t, before, e, beside, after)
+    }
+}
+
+// Whether there is nothing to take out.
+pub fn settled(found: Tidy) -> bool
+    ensures { λ r. ⌜ r ≡ Findings.settled found ⌝ }
+{
+    match found {
+        Tidy::Settled => true,
+        Tidy::SmallRing(_) => false,
+        Tidy::Straight(_) => false,
+        Tidy::Spike(_) => false,
+        Tidy::Empty(_) => false,
+    }
+}
+
+// The first live slot at which something is to be taken out, and what.
+pub fn find_tidy(edges: [Edge; 128], t: f64) -> Tidy
+    ensures { λ r. ⌜ r ≡ Tidying.find-tidy edges t ⌝ }
+{
+    let mut k = 0usize;
+    while k < 128 {
+        let slot = k;
+        k += 1;
+        let e = edges[slot];
+        if e.alive {
+            let previous = e.previous;
+            let next = e.next;
+            let before = lines::edge_or(
+                previous < 128,
+                edges[ring::choose(previous < 128, previous, 0)],
+            );
+            let after = lines::edge_or(next < 128, edges[ring::choose(next < 128, next, 0)]);
+            let back = after.previous;
+            let beside = lines::edge_or(back < 128, edges[ring::choose(back < 128, back, 0)]);
+            let found = tidy_between(slot, t, before, e, beside, after);
+            if !settled(found) {
+                return found;
+            }
+        }
+    }
+    Tidy::Settled
+}
+
+// The edge, not alive any more where the slot that it was read from is one.
+pub fn dead_if(inside: bool, e: Edge) -> Edge
+    ensures { λ r. ⌜ r ≡ cond inside (Edges.dead e) e ⌝ }
+{
+    if inside {
+        let line = e.line;
+        let start = e.start;
+        Edge {
+            line,
+            previous: e.previous,
+            next: e.next,
+            alive: false,
+            start,
+            since: e.since,
+        }
+    } else {
+        e
+    }
+}
+
+// A ring too small is dropped whole, from its slot on: the walk ends where it comes round or meets a dead edge.
+pub fn drop_ring(edges: [Edge; 128], slot: usize) -> [Edge; 128]
+    ensures { λ r. ⌜ r ≡ Tidying.drop-ring edges slot ⌝ }
+{
+    let mut f = edges;
+    let mut at = slot;
+    let mut k = 0usize;
+    while k < 128 {
+        k += 1;
+        let inside = at < 128;
+        let i = ring::choose(inside, at, 0);
+        let read = f[i];
+        let e = lines::edge_or(inside, read);
+        let next = e.next;
+        f[i] = dead_if(inside, read);
+        let n = lines::edge_or(next < 128, f[ring::choose(next < 128, next, 0)]);
+        if (next == slot) | !n.alive {
+            return f;
+        }
+        at = next;
+    }
+    f
+}
+
+// A straight vertex: one line, one edge. The edge that ends there stays, its next goes.
+pub fn drop_straight(edges: [Edge; 128], next: usize, t: f64) -> Front
+    ensures { λ r. ⌜ r ≡ Tidying.drop-straight edges next t ⌝ }
+{
+    edges::collapse(edges, next, t)
+}
+
+pub fn midpoint(p: PlanarPoint, q: PlanarPoint) -> PlanarPoint
+    ensures { λ r. ⌜ r ≡ Tidying.midpoint p q ⌝ }
+{
+    PlanarPoint {
+        east: (p.east + q.east) / 2.0,
+        north: (p.north + q.north) / 2.0,
+    }
+}
+
+pub fn meeting_or(p: PlanarPoint, q: PlanarPoint, place: Place) -> PlanarPoint
+    ensures { λ r. ⌜ r ≡ Tidying.meeting-or p q place ⌝ }
+{
+    match place {
+        Place::Nowhere => midpoint(p, q),
+        Place::There(r) => r,
+    }
+}
+
+// A spike, or an inlet of no width: both edges go, and the edges on either side, `before` and `after`, meet afresh.
+pub fn drop_both(
+    edges: [Edge; 128],
+    slot: usize,
+    next: usize,
+    after: usize,
+    start: PlanarPoint,
+    t: f64,
+) -> Front
+    ensures { λ r. ⌜ r ≡ Tidying.drop-both edges slot next after start t ⌝ }
+{
+    let second = edges::remove(edges, next);
+    let first = edges::remove(second, slot);
+    edges::altered(edges::set_start(first, after, start, t))
+}
+
+pub fn spike_to(
+    edges: [Edge; 128],
+    slot: usize,
+    before: usize,
+    next: usize,
+    after: usize,
+    t: f64,
+    p: PlanarPoint,
+    to: Vertex,
+) -> Front
+    ensures { λ r. ⌜ r ≡ Tidying.spike-to edges slot before next after t p to ⌝ }
+{
+    match to {
+        Vertex::NoVertex => edges::stalled(edges),
+        Vertex::Moving(q, _) => {
+            let a = edges::edge_at(edges, before);
+            let b = edges::edge_at(edges, after);
+            let place = lines::meeting(a.line, b.line, t);
+            drop_both(edges, slot, next, after, meeting_or(p, q, place), t)
+        }
+    }
+}
+
+pub fn drop_spike(edges: [Edge; 128], slot: usize, next: usize, t: f64) -> Front
+    ensures { λ r. ⌜ r ≡ Tidying.drop-spike edges slot next t ⌝ }
+{
+    let e = edges::edge_at(edges, slot);
+    let n = edges::edge_at(edges, next);
+    let from = edges::vertex(edges, slot, t);
+    match from {
+        Vertex::NoVertex => edges::stalled(edges),
+        Vertex::Moving(p, _) => {
+            let to = edges::vertex(edges, n.next, t);
+            spike_to(edges, slot, e.previous, next, n.next, t, p, to)
+        }
+    }
+}
+
+// Takes out what was found.
+pub fn tidy_by(edges: [Edge; 128], t: f64, found: Tidy) -> Front
+    ensures { λ r. ⌜ r ≡ Tidying.tidy-by edges t found ⌝ }
+{
+    match found {
+        Tidy::Settled => Front {
+            edges,
+            stalled: false,
+            changed: false,
+        },
+        Tidy::SmallRing(slot) => edges::altered(drop_ring(edges, slot)),
+        Tidy::Straight(slot) => {
+            let e = edges::edge_at(edges, slot);
+            drop_straight(edges, e.next, t)
+        }
+        Tidy::Spike(slot) => {
+            let e = edges::edge_at(edges, slot);
+            drop_spike(edges, slot, e.next, t)
+        }
+        Tidy::Empty(slot) => edges::collapse(edges, slot, t),
+    }
+}
+
+pub fn tidy_once(edges: [Edge; 128], t: f64) -> Front
+    ensures { λ r. ⌜ r ≡ Tidying.tidy-once edges t ⌝ }
+{
+    tidy_by(edges, t, find_tidy(edges, t))
+}
+
+// 128 steps more, until one changes nothing or meets a vertex without a velocity.
+pub fn tidy_on(s: Front, t: f64) -> Front
+    ensures { λ r. ⌜ r ≡ rounds (Tidying.tidy-step t) 128 s ⌝ }
+{
+    let mut at = s;
+    let mut k = 0usize;
+    while k < 128 {
+        k += 1;
+        if !(at.changed & !at.stalled) {
+            return at;
+        }
+        let f = at.edges;
+        let then = tidy_once(f, t);
+        at = then;
+    }
+    at
+}
+
+// 129 steps at most. Mostly the first finds nothing.
+pub fn tidy(edges: [Edge; 128], t: f64) -> Front
+    ensures { λ r. ⌜ r ≡ Tidying.tidy edges t ⌝ }
+{
+    let found = find_tidy(edges, t);
+    if settled(found) {
+        Front {
+            edges,
+            stalled: false,
+            changed: false,
+        }
+    } else {
+        tidy_on(tidy_by(edges, t, found), t)
+    }
+}
