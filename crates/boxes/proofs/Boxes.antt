@@ -1,5 +1,5 @@
 -- Segments whose boxes are apart: no end of the one lies in the other's box, so they meet only where they cross. Assumes nothing.
-use mathlib.Core.Path.{_≡_, refl, sym, ap, _∙_, subst}
+use mathlib.Core.Path.{_≡_, refl, sym, _∙_}
 use Rattle.segment.proofs.Turns.{left-is, right-is}
 use mathlib.Core.Bool.{Bool, Bool·beq, true, false, cond, not, _&&_, _||_, true≢false, false≢true}
 use lib.Ieee.{Float, lt, le, eq}
@@ -142,13 +142,13 @@ module _ (a1 a2 b1 b2 : PlanarPoint) where
   outside h = go _ _ _ _ refl refl refl refl h
     where
       go :
-          (p q r s : Bool) → lt (greater (b1 .east) (b2 .east)) (fmin (a1 .east) (a2 .east)) ≡ p → lt (fmax (a1 .east) (a2 .east)) (lesser (b1 .east) (b2 .east)) ≡ q →
-          lt (greater (b1 .north) (b2 .north)) (fmin (a1 .north) (a2 .north)) ≡ r → lt (fmax (a1 .north) (a2 .north)) (lesser (b1 .north) (b2 .north)) ≡ s →
+          (p q r s : Bool) → lt (greater (b1 .east) (b2 .east)) (lesser (a1 .east) (a2 .east)) ≡ p → lt (greater (a1 .east) (a2 .east)) (lesser (b1 .east) (b2 .east)) ≡ q →
+          lt (greater (b1 .north) (b2 .north)) (lesser (a1 .north) (a2 .north)) ≡ r → lt (greater (a1 .north) (a2 .north)) (lesser (b1 .north) (b2 .north)) ≡ s →
           (p || (q || (r || s))) ≡ true → Outside a1 a2 b1 b2
-      go true q r s e f g k h = west (below _ _ _ _ (greater-is _ _ _ e))
-      go false true r s e f g k h = east (below _ _ _ _ (lesser-is _ _ _ f))
-      go false false true s e f g k h = south (below _ _ _ _ (greater-is _ _ _ g))
-      go false false false true e f g k h = north (below _ _ _ _ (lesser-is _ _ _ k))
+      go true q r s e f g k h = west (below _ _ _ _ (greater-is _ _ _ (lesser-is _ _ _ e)))
+      go false true r s e f g k h = east (below _ _ _ _ (greater-is _ _ _ (lesser-is _ _ _ f)))
+      go false false true s e f g k h = south (below _ _ _ _ (greater-is _ _ _ (lesser-is _ _ _ g)))
+      go false false false true e f g k h = north (below _ _ _ _ (greater-is _ _ _ (lesser-is _ _ _ k)))
       go false false false false e f g k h = absurd (false≢true h)
 
 -- ---- two segments that cannot meet

@@ -2,7 +2,6 @@
 use mathlib.Core.Bool.{Bool, cond, not, _&&_, _||_}
 use lib.Ieee.{Float, lt}
 use Rattle.plane.specs.declared.PlanarPoint.{PlanarPoint}
-use Rattle.math.specs.Number.{fmin, fmax}
 use Rattle.segment.specs.Segments.{side, apart}
 
 -- the greater and the less of two numbers; the second where one is NaN
@@ -14,10 +13,10 @@ lesser x y = cond (lt x y) x y
 
 -- the corners of a segment's box
 unfoldable pub low : PlanarPoint → PlanarPoint → PlanarPoint
-low a b = record { east = fmin (a .east) (b .east); north = fmin (a .north) (b .north) }
+low a b = record { east = lesser (a .east) (b .east); north = lesser (a .north) (b .north) }
 
 unfoldable pub high : PlanarPoint → PlanarPoint → PlanarPoint
-high a b = record { east = fmax (a .east) (b .east); north = fmax (a .north) (b .north) }
+high a b = record { east = greater (a .east) (b .east); north = greater (a .north) (b .north) }
 
 -- the segment from p to q lies west, east, south or north of the box from l to h
 unfoldable pub beside : PlanarPoint → PlanarPoint → PlanarPoint → PlanarPoint → Bool

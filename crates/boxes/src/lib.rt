@@ -8,8 +8,8 @@ pub fn low(a: PlanarPoint, b: PlanarPoint) -> PlanarPoint
     ensures { λ r. ⌜ r ≡ Quick.low a b ⌝ }
 {
     PlanarPoint {
-        east: math::min(a.east, b.east),
-        north: math::min(a.north, b.north),
+        east: math::choose(a.east < b.east, a.east, b.east),
+        north: math::choose(a.north < b.north, a.north, b.north),
     }
 }
 
@@ -17,8 +17,8 @@ pub fn high(a: PlanarPoint, b: PlanarPoint) -> PlanarPoint
     ensures { λ r. ⌜ r ≡ Quick.high a b ⌝ }
 {
     PlanarPoint {
-        east: math::max(a.east, b.east),
-        north: math::max(a.north, b.north),
+        east: math::choose(b.east < a.east, a.east, b.east),
+        north: math::choose(b.north < a.north, a.north, b.north),
     }
 }
 

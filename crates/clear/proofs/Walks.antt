@@ -58,20 +58,23 @@ module _ (p a b : PlanarPoint) (least : Float) (q v : PlanarPoint) where
 
 -- ---- one edge of a ring after the other
 module _ (ps : List Float) (n : ℕ) (p : PlanarPoint) (least : Float) (k : ℕ) where
+  abbrev edge-short : ℕ → Bool
+  edge-short j = falls-short p (vertex-at ps j) (edge-end ps n j) least
+
   pub edge-told : (a b : PlanarPoint) {r t : Bool} → a ≡ vertex-at ps k → b ≡ edge-end ps n k → r ≡ falls-short p a b least → r ≡ t → falls-short p (vertex-at ps k) (edge-end ps n k) least ≡ t
   edge-told a b e f h i = rw (← e, ← f) (sym h ∙ i)
 
   pub not-short : rounds (short-step ps n p least) k false ≡ false → falls-short p (vertex-at ps k) (edge-end ps n k) least ≡ false → rounds (short-step ps n p least) (k + 1) false ≡ false
   unfolding short-step
-  not-short e h = walk-on (short-step ps n p least) (λ (j : ℕ). falls-short p (vertex-at ps j) (edge-end ps n j) least) (λ (j : ℕ) (s : Bool). refl) n k e h
+  not-short e h = walk-on (short-step ps n p least) edge-short (λ (j : ℕ) (s : Bool). refl) n k e h
 
   pub short-at : rounds (short-step ps n p least) k false ≡ false → k < n → falls-short p (vertex-at ps k) (edge-end ps n k) least ≡ true → le least ((nearest ps n p) .gap) ≡ false
   unfolding short-step
-  short-at e l h = gap-short ps n p least (walk-found (short-step ps n p least) (λ (j : ℕ). falls-short p (vertex-at ps j) (edge-end ps n j) least) (λ (j : ℕ) (s : Bool). refl) n k e l h)
+  short-at e l h = gap-short ps n p least (walk-found (short-step ps n p least) edge-short (λ (j : ℕ) (s : Bool). refl) n k e l h)
 
   pub none-short : k ≤ n → n ≤ k → rounds (short-step ps n p least) k false ≡ false → le least ((nearest ps n p) .gap) ≡ eq least least
   unfolding short-step
-  none-short l h e = gap-long ps n p least (walk-ends (short-step ps n p least) (λ (j : ℕ). falls-short p (vertex-at ps j) (edge-end ps n j) least) (λ (j : ℕ) (s : Bool). refl) n k e l h)
+  none-short l h e = gap-long ps n p least (walk-ends (short-step ps n p least) edge-short (λ (j : ℕ) (s : Bool). refl) n k e l h)
 
 -- ---- two questions, the second asked where the first says yes
 pub and-right : (x y r : Bool) → x ≡ true → r ≡ y → r ≡ (x && y)

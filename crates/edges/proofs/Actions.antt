@@ -1,10 +1,12 @@
--- Stores into one edge, in the list and out of it; and each action, by what the code does one after the other. Assumes nothing.
-use Prim.Native.Nat.{ℕ, _<_, _≤_}
-use mathlib.Core.Bool.{true, false}
-use mathlib.Core.List.{List}
-use mathlib.Core.Path.{_≡_, refl}
+-- Reads and stores at one slot; and each action, by what the code does one after the other. Assumes nothing.
+use Prim.Native.Nat.{ℕ}
+use mathlib.Core.Bool.{Bool, true, false, cond}
+use mathlib.Core.List.{List, [], _∷_}
+use mathlib.Core.Path.{_≡_, refl, sym, _∙_}
 use native.Mathlib.Omega.{arith}
-use lib.ListN.{getD, set, length}
+use borrow.Author.Tests.{ltb-true, ltb-false}
+use lib.Dec.{ltb}
+use lib.ListN.{getD, set, length, length-set}
 use lib.Seq.{set-out}
 use lib.Ieee.{Float}
 use Rattle.plane.specs.declared.PlanarPoint.{PlanarPoint}
@@ -13,32 +15,43 @@ use Rattle.front.specs.declared.Vertex.{Vertex}
 use Rattle.front.specs.declared.Vertex.the-variants.{NoVertex, Moving}
 use Rattle.front.specs.declared.Front.{Front}
 use Rattle.front.specs.Lines.{velocity}
-use Rattle.front.specs.Edges.{edge, blank, with-previous, with-start, dead, set-next, set-previous, set-start, kill, unlinked, remove, vertex-by, vertex-of, vertex, altered, stalled, anchor-at, anchor, then-remove, collapse}
+use Rattle.front.specs.Edges.{edge, blank, unused, with-next, with-previous, with-start, dead, set-next, set-previous, set-start, kill, unlinked, remove, vertex-by, vertex-of, vertex, altered, stalled, anchor-at, anchor, then-remove, collapse}
 use Rattle.front.proofs.EdgeLaws.{edge-in}
+use Rattle.lines.proofs.Ends.{edge-read}
 
-pub set-previous-in : (f : List Edge) (k n : ℕ) → k < 128 → set-previous f k n ≡ set f k (with-previous (getD f k blank) n)
-unfolding set-previous
-set-previous-in f k n l = rw (edge-in f k l)
+-- ---- reads and stores at a slot that may lie out of the front: slot 0 is taken in its place
 
-pub set-previous-out : (f : List Edge) (k n : ℕ) → length f ≡ 128 → 128 ≤ k → set-previous f k n ≡ f
-unfolding set-previous
-set-previous-out f k n e l = set-out f k _ (omega arith)
+pub slot-read : (f : List Edge) (k i : ℕ) (e : Edge) → i ≡ cond (ltb k 128) k 0 → e ≡ cond (ltb k 128) (getD f i blank) unused → e ≡ edge f k
+slot-read f k i e p q = rw (q, p) (edge-read f k)
 
-pub set-start-in : (f : List Edge) (k : ℕ) (p : PlanarPoint) (t : Float) → k < 128 → set-start f k p t ≡ set f k (with-start (getD f k blank) p t)
-unfolding set-start
-set-start-in f k p t l = rw (edge-in f k l)
+set-own : (f : List Edge) → set f 0 (getD f 0 blank) ≡ f
+set-own [] = refl
+set-own (e ∷ f) = refl
 
-pub set-start-out : (f : List Edge) (k : ℕ) (p : PlanarPoint) (t : Float) → length f ≡ 128 → 128 ≤ k → set-start f k p t ≡ f
-unfolding set-start
-set-start-out f k p t e l = set-out f k _ (omega arith)
+module _ (f : List Edge) (k i : ℕ) (x : Edge) (l : length f ≡ 128) (i-is : i ≡ cond (ltb k 128) k 0) where
+  slot-set : (h : Edge → Edge) → x ≡ cond (ltb k 128) (h (getD f i blank)) (getD f i blank) → set f i x ≡ set f k (h (edge f k))
+  slot-set h = go (ltb k 128) refl i-is
+    where
+      go : (b : Bool) → ltb k 128 ≡ b → i ≡ cond b k 0 → x ≡ cond b (h (getD f i blank)) (getD f i blank) → set f i x ≡ set f k (h (edge f k))
+      go true p q r = rw (r, q, edge-in f k (ltb-true k 128 p)) refl
+      go false p q r = rw (r, q) (set-own f ∙ sym (set-out f k (h (edge f k)) (omega (arith, l, ltb-false k 128 p))))
 
-pub kill-in : (f : List Edge) (k : ℕ) → k < 128 → kill f k ≡ set f k (dead (getD f k blank))
-unfolding kill
-kill-in f k l = rw (edge-in f k l)
+  pub slot-next : (n : ℕ) → x ≡ cond (ltb k 128) (with-next (getD f i blank) n) (getD f i blank) → set f i x ≡ set-next f k n
+  unfolding set-next
+  slot-next n = slot-set (λ (e : Edge). with-next e n)
 
-pub kill-out : (f : List Edge) (k : ℕ) → length f ≡ 128 → 128 ≤ k → kill f k ≡ f
-unfolding kill
-kill-out f k e l = set-out f k _ (omega arith)
+  pub slot-previous : (n : ℕ) → x ≡ cond (ltb k 128) (with-previous (getD f i blank) n) (getD f i blank) → set f i x ≡ set-previous f k n
+  unfolding set-previous
+  slot-previous n = slot-set (λ (e : Edge). with-previous e n)
+
+  pub slot-start :
+      (p : PlanarPoint) (t : Float) → x ≡ cond (ltb k 128) (with-start (getD f i blank) p t) (getD f i blank) → set f i x ≡ set-start f k p t
+  unfolding set-start
+  slot-start p t = slot-set (λ (e : Edge). with-start e p t)
+
+  pub slot-kill : x ≡ cond (ltb k 128) (dead (getD f i blank)) (getD f i blank) → set f i x ≡ kill f k
+  unfolding kill
+  slot-kill = slot-set dead
 
 -- ---- the actions
 
@@ -76,3 +89,40 @@ pub collapse-is :
     (f : List Edge) (slot : ℕ) (t : Float) (e : Edge) (s r : Front) → e ≡ edge f slot → s ≡ anchor f (e .next) t → r ≡ then-remove slot s → r ≡ collapse f slot t
 unfolding collapse
 collapse-is f slot t e s r a b c = rw (c, b, a) refl
+
+-- ---- the actions, store by store
+
+module _ (f : List Edge) (l : length f ≡ 128) (slot i j k : ℕ) (gone x y z : Edge) (gone-is : gone ≡ edge f slot) (i-is : i ≡ cond (ltb (gone .previous) 128) (gone .previous) 0)
+    (x-is : x ≡ cond (ltb (gone .previous) 128) (with-next (getD f i blank) (gone .next)) (getD f i blank)) (j-is : j ≡ cond (ltb (gone .next) 128) (gone .next) 0)
+    (y-is : y ≡ cond (ltb (gone .next) 128) (with-previous (getD (set f i x) j blank) (gone .previous)) (getD (set f i x) j blank))
+    (k-is : k ≡ cond (ltb slot 128) slot 0)
+    (z-is : z ≡ cond (ltb slot 128) (dead (getD (set (set f i x) j y) k blank)) (getD (set (set f i x) j y) k blank)) where
+  l1 : length (set f i x) ≡ 128
+  l1 = length-set f i x ∙ l
+
+  l2 : length (set (set f i x) j y) ≡ 128
+  l2 = length-set (set f i x) j y ∙ l1
+
+  pub removed : set (set (set f i x) j y) k z ≡ remove f slot
+  removed =
+      remove-is f (set f i x) (set (set f i x) j y) (set (set (set f i x) j y) k z) slot gone gone-is
+      (slot-next f (gone .previous) i x l i-is (gone .next) x-is) (slot-previous (set f i x) (gone .next) j y l1 j-is (gone .previous) y-is)
+      (slot-kill (set (set f i x) j y) slot k z l2 k-is z-is)
+
+pub collapse-none :
+    (f : List Edge) (slot : ℕ) (t : Float) (e n b : Edge) (v : Vertex) → e ≡ edge f slot → n ≡ edge f (e .next) → b ≡ edge f (n .previous) →
+    v ≡ vertex-by n t (velocity (b .line) (n .line)) → v ≡ NoVertex → stalled f ≡ collapse f slot t
+unfolding stalled
+collapse-none f slot t e n b v e-is n-is b-is v-is h =
+    collapse-is f slot t e (stalled f) (stalled f) e-is (anchor-none f (e .next) t v (stalled f) (vertex-is f (e .next) t n b v n-is b-is v-is) h refl)
+    (then-stays slot (stalled f) refl)
+
+pub collapse-some :
+    (f g r : List Edge) (slot : ℕ) (t : Float) (e n b : Edge) (v : Vertex) (p w : PlanarPoint) → e ≡ edge f slot → n ≡ edge f (e .next) →
+    b ≡ edge f (n .previous) → v ≡ vertex-by n t (velocity (b .line) (n .line)) → v ≡ Moving p w → g ≡ set-start f (e .next) p t → r ≡ remove g slot →
+    altered r ≡ collapse f slot t
+unfolding altered
+collapse-some f g r slot t e n b v p w e-is n-is b-is v-is h g-is r-is =
+    collapse-is f slot t e (altered g) (altered r) e-is
+    (anchor-some f g (e .next) t v p w (altered g) (vertex-is f (e .next) t n b v n-is b-is v-is) h g-is refl)
+    (then-removes slot (altered g) (altered r) r refl r-is refl)

@@ -1,8 +1,8 @@
 -- The leaves of the search, by the constructors that they match. Assumes nothing.
 use Prim.Native.Nat.{ℕ}
-use mathlib.Core.Path.{_≡_, refl, sym, ap, _∙_}
+use mathlib.Core.Path.{_≡_, refl, sym, ap}
 use mathlib.Core.Bool.{Bool, true, false, not, false≢true, _&&_, _||_}
-use lib.Ieee.{Float, lt, le, neg}
+use lib.Ieee.{Float, lt, neg}
 use Rattle.plane.specs.declared.PlanarPoint.{PlanarPoint}
 use Rattle.math.specs.Number
 use Rattle.math.specs.Number.{zero-float, one, div, fmax, mul, add}
@@ -11,7 +11,6 @@ use Rattle.front.specs.declared.Vertex.{Vertex}
 use Rattle.front.specs.declared.Vertex.the-variants.{NoVertex, Moving}
 use Rattle.front.specs.declared.Length.{Length}
 use Rattle.front.specs.declared.Length.the-variants.{NoLength, Long}
-use Rattle.front.specs.declared.Event.{Event}
 use Rattle.front.specs.declared.Event.the-variants.{Never, Collapse, Split}
 use Rattle.front.specs.Thresholds.{tie}
 use Rattle.front.specs.Lines.{direction}

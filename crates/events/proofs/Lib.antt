@@ -1,3 +1,4 @@
 pub mod Leaves
 pub mod Search
 pub mod Turns
+pub mod Used

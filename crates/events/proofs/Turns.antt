@@ -1,5 +1,5 @@
 -- One turn of each loop of the search, by what the code holds. Assumes nothing.
-use Prim.Native.Nat.{ℕ, _+_, _<_, _≤_}
+use Prim.Native.Nat.{ℕ, _<_}
 use mathlib.Core.Path.{_≡_, refl, sym, ap, _∙_, subst}
 use mathlib.Core.Bool.{Bool, true, false, cond, not, _&&_, _||_}
 use mathlib.Core.List.{List}
@@ -10,28 +10,26 @@ use lib.ListN.{getD}
 use lib.Ieee.{Float, lt, le, neg}
 use Rattle.plane.specs.declared.PlanarPoint.{PlanarPoint}
 use Rattle.plane.specs.Plane.{dot, sub, cross}
-use Rattle.math.specs.Number
-use Rattle.math.specs.Number.{zero-float, one, div, fmax, add}
+use Rattle.math.specs.Number.{zero-float, div, fmax, add}
 use Rattle.front.specs.declared.Edge.{Edge}
 use Rattle.front.specs.declared.Vertex.{Vertex}
 use Rattle.front.specs.declared.Vertex.the-variants.{NoVertex, Moving}
 use Rattle.front.specs.declared.Length.{Length}
 use Rattle.front.specs.declared.EventSearch.{EventSearch}
 use Rattle.front.specs.declared.SoonestCollapse.{SoonestCollapse}
-use Rattle.front.specs.declared.SoonestCollapse.the-variants.{NoCollapse, CollapseAfter}
-use Rattle.front.specs.declared.SoonestSplit.{SoonestSplit}
-use Rattle.front.specs.declared.SoonestSplit.the-variants.{NoSplit, SplitAfter}
-use Rattle.front.specs.Lines.{direction, normal}
+use Rattle.front.specs.declared.SoonestCollapse.the-variants.{CollapseAfter}
+use Rattle.front.specs.declared.SoonestSplit.the-variants.{SplitAfter}
+use Rattle.front.specs.Lines.{direction}
 use Rattle.front.specs.Edges.{unused, blank, edge, edge-line, vertex-of, vertex, moved-by, length-to, edge-length}
 use Rattle.front.specs.NextEvent.{look-stalled, look-split, look-collapse, sooner, late, hit-to, hit-from, hit-then, hit-after, hit-closing, hit-at, candidate, hit-step, hits, look-turn, shrinking, look-length, look-vertex, look-at, look-step}
 use Rattle.loops.specs.Loop.{rounds}
 use Rattle.loops.proofs.Laws.{no-round}
 use Rattle.lines.specs.Moving.{length-between}
+use Rattle.events.proofs.Used.{hits-used}
 use Rattle.lines.proofs.Ends.{length-is, edge-read}
-use Rattle.events.specs.declared.Coming.{Coming}
 use Rattle.events.specs.declared.Struck.{Struck}
 use Rattle.events.specs.declared.Turn.{Turn}
-use Rattle.events.specs.Found.{collapse-of, split-of, search-of, coming-by, approach, strike, shrink, corner-of, reflex, start-of, turn-by, turn-from, turn-at, strike-at}
+use Rattle.events.specs.Found.{collapse-of, split-of, search-of, closing, step-to, strike, shrink, corner-of, reflex, start-of, turn-by, turn-from, turn-at, strike-at, used-slots}
 
 -- ---- reads
 
@@ -75,8 +73,8 @@ collapse-or true true a k q soon = go (lt q soon)
     go true = refl
     go false = refl
 
--- the tests of the inner loop, in one
-tests : {S : Type 0} (w q r l : Bool) (x y : S) → cond w (cond q y (cond (r || l) y x)) y ≡ cond ((w && (not q && not r)) && not l) x y
+-- the tests of the inner loop, in two
+tests : {S : Type 0} (w q r l : Bool) (x y : S) → cond w (cond q y (cond (r || l) y x)) y ≡ cond (w && not q) (cond (not r && not l) x y) y
 tests false q r l x y = refl
 tests true true r l x y = refl
 tests true false true l x y = refl
@@ -102,21 +100,26 @@ module _ (f : List Edge) (t : Float) (slot before : ℕ) (p v : PlanarPoint) (ot
   abbrev here : EventSearch
   here = search-of b k soon d x y step
 
-  abbrev asks : Edge → Coming → Bool
-  asks g c = ((g .alive && (not (eqb other slot) && not (eqb other before))) && c .ahead) && not (d && le step (c .step))
+  -- the edge is alive, not one of the vertex's own, and comes closer; the step is not below 0, and sooner than the split in hand
+  abbrev comes : Edge → Float → Bool
+  comes g speed = (g .alive && (not (eqb other slot) && not (eqb other before))) && not (le zero-float speed)
 
-  closes : (g : Edge) (w : Bool) (closing q : Float) →
-      cond w (cond (le zero-float closing) here (cond (lt q zero-float || late q (split-of d x y step)) here (hit-then f t slot other g p v q here))) here
-      ≡ cond ((w && (not (le zero-float closing) && not (lt q zero-float))) && not (d && le step q)) (hit-then f t slot other g p v q here) here
-  closes g w closing q =
-      rw (late-of d x y step q) (tests w (le zero-float closing) (lt q zero-float) (d && le step q) (hit-then f t slot other g p v q here) here)
+  abbrev in-time : Float → Bool
+  in-time q = not (lt q zero-float) && not (d && le step q)
+
+  closes : (g : Edge) (w : Bool) (speed q : Float) →
+      cond w (cond (le zero-float speed) here (cond (lt q zero-float || late q (split-of d x y step)) here (hit-then f t slot other g p v q here))) here
+      ≡ cond (w && not (le zero-float speed)) (cond (in-time q) (hit-then f t slot other g p v q here) here) here
+  closes g w speed q =
+      rw (late-of d x y step q) (tests w (le zero-float speed) (lt q zero-float) (d && le step q) (hit-then f t slot other g p v q here) here)
+
+  abbrev then-in-time : Edge → Float → EventSearch
+  then-in-time g q = cond (in-time q) (hit-then f t slot other g p v q here) here
 
   asked : (g : Edge) → cond (candidate slot before other g here) (hit-at f t slot other g p v here) here
-      ≡ cond (asks g (approach g p v t)) (hit-then f t slot other g p v ((approach g p v t) .step) here) here
-  unfolding candidate hit-at hit-closing hit-after search-of approach coming-by
-  asked g =
-      closes g (g .alive && (not (eqb other slot) && not (eqb other before))) (Number.sub (dot (normal (edge-line g)) v) one)
-      (div (Number.sub (add ((edge-line g) .c) t) (dot (normal (edge-line g)) p)) (Number.sub (dot (normal (edge-line g)) v) one))
+      ≡ cond (comes g (closing g v)) (then-in-time g (step-to g p t (closing g v))) here
+  unfolding candidate hit-at hit-closing hit-after search-of closing step-to
+  asked g = closes g (g .alive && (not (eqb other slot) && not (eqb other before))) (closing g v) (step-to g p t (closing g v))
 
   then-struck : (q : Float) → hit-then f t slot other (edge f other) p v q here
       ≡ struck-on here slot other q
@@ -124,33 +127,40 @@ module _ (f : List Edge) (t : Float) (slot before : ℕ) (p v : PlanarPoint) (ot
   unfolding hit-then strike-at start-of vertex vertex-of
   then-struck q = strikes f slot other (edge f other) q (add t q) (moved-by p v q) here (vertex f other (add t q))
 
-  module _ (g : Edge) (c : Coming) (eg : g ≡ edge f other) (ec : c ≡ approach g p v t) where
-    by-test : hit-step f t slot before p v other here ≡ cond (asks g c) (hit-then f t slot other g p v (c .step) here) here
+  module _ (g : Edge) (eg : g ≡ edge f other) (speed : Float) (es : speed ≡ closing g v) where
+    by-edge : hit-step f t slot before p v other here ≡ cond (comes g speed) (then-in-time g (step-to g p t speed)) here
     unfolding hit-step
-    by-test = rw (← eg, ec) (asked g)
+    by-edge = rw (← eg, es) (asked g)
 
-    pub passes : asks g c ≡ false → hit-step f t slot before p v other here ≡ here
-    passes h = by-test ∙ ap (λ (z : Bool). cond z (hit-then f t slot other g p v (c .step) here) here) h
+    pub passes-edge : comes g speed ≡ false → hit-step f t slot before p v other here ≡ here
+    passes-edge h = by-edge ∙ ap (λ (z : Bool). cond z (then-in-time g (step-to g p t speed)) here) h
 
-    module _ (first last own : Edge) (h : Struck) (ea : first ≡ edge f (g .previous)) (el : last ≡ edge f (g .next)) (eo : own ≡ edge f (last .previous))
-        (eh : h ≡ strike-at first g own last p v (c .step) t) (a : asks g c ≡ true) where
-      struck-as : hit-then f t slot other g p v (c .step) here ≡ struck-on here slot other (c .step) h
-      struck-as = rw (eh, eo, el, ea, eg) (then-struck (c .step))
+    module _ (w : comes g speed ≡ true) (q : Float) (eq : q ≡ step-to g p t speed) where
+      by-step : hit-step f t slot before p v other here ≡ then-in-time g q
+      by-step = by-edge ∙ ap (λ (z : Bool). cond z (then-in-time g (step-to g p t speed)) here) w ∙ ap (then-in-time g) (sym eq)
 
-      by-strike : hit-step f t slot before p v other here ≡ struck-on here slot other (c .step) h
-      by-strike = by-test ∙ ap (λ (z : Bool). cond z (hit-then f t slot other g p v (c .step) here) here) a ∙ struck-as
+      pub passes-step : in-time q ≡ false → hit-step f t slot before p v other here ≡ here
+      passes-step h = by-step ∙ ap (λ (z : Bool). cond z (hit-then f t slot other g p v q here) here) h
 
-      pub strikes-lost : h .lost ≡ true → hit-step f t slot before p v other here ≡ look-stalled here
-      unfolding struck-on
-      strikes-lost l = by-strike ∙ ap (λ (z : Bool). cond z (look-stalled here) (cond (h .on) (look-split here (SplitAfter slot other (c .step))) here)) l
+      module _ (a : in-time q ≡ true) (first last own : Edge) (h : Struck) (ea : first ≡ edge f (g .previous)) (el : last ≡ edge f (g .next))
+          (eo : own ≡ edge f (last .previous)) (eh : h ≡ strike-at first g own last p v q t) where
+        struck-as : hit-then f t slot other g p v q here ≡ struck-on here slot other q h
+        struck-as = rw (eh, eo, el, ea, eg) (then-struck q)
 
-      pub strikes-on : (x′ y′ : ℕ) (step′ : Float) → x′ ≡ cond (h .on) slot x → y′ ≡ cond (h .on) other y → step′ ≡ cond (h .on) (c .step) step → h .lost ≡ false →
-          hit-step f t slot before p v other here ≡ search-of b k soon (d || h .on) x′ y′ step′
-      unfolding struck-on
-      strikes-on x′ y′ step′ ex ey es l =
-          by-strike
-          ∙ ap (λ (z : Bool). cond z (look-stalled here) (cond (h .on) (look-split here (SplitAfter slot other (c .step))) here)) l
-          ∙ rw (ex, ey, es) (search-or b k soon (h .on) d slot other x y (c .step) step)
+        by-strike : hit-step f t slot before p v other here ≡ struck-on here slot other q h
+        by-strike = by-step ∙ ap (λ (z : Bool). cond z (hit-then f t slot other g p v q here) here) a ∙ struck-as
+
+        pub strikes-lost : h .lost ≡ true → hit-step f t slot before p v other here ≡ look-stalled here
+        unfolding struck-on
+        strikes-lost l = by-strike ∙ ap (λ (z : Bool). cond z (look-stalled here) (cond (h .on) (look-split here (SplitAfter slot other q)) here)) l
+
+        pub strikes-on : (x′ y′ : ℕ) (step′ : Float) → x′ ≡ cond (h .on) slot x → y′ ≡ cond (h .on) other y → step′ ≡ cond (h .on) q step → h .lost ≡ false →
+            hit-step f t slot before p v other here ≡ search-of b k soon (d || h .on) x′ y′ step′
+        unfolding struck-on
+        strikes-on x′ y′ step′ ex ey ez l =
+            by-strike
+            ∙ ap (λ (z : Bool). cond z (look-stalled here) (cond (h .on) (look-split here (SplitAfter slot other q)) here)) l
+            ∙ rw (ex, ey, ez) (search-or b k soon (h .on) d slot other x y q step)
 
 -- ---- the outer loop
 
@@ -166,19 +176,19 @@ module _ (f : List Edge) (t : Float) (slot : ℕ) (b : Bool) (k : ℕ) (soon : F
   shrinks-by false q = ap (λ (c : SoonestCollapse). record { stalled = false; collapse = c; split = split-of d x y step }) (collapse-or false b slot k q soon)
 
   turns : (before e : Edge) (p v : PlanarPoint) (s : EventSearch) → before ≡ edge f (e .previous) →
-      look-turn f t slot e p v s ≡ rounds (hit-step f t slot (e .previous) p v) (cond (reflex (edge-line before) (edge-line e)) 128 0) s
+      look-turn f t slot e p v s ≡ rounds (hit-step f t slot (e .previous) p v) (cond (reflex (edge-line before) (edge-line e)) (used-slots f) 0) s
   unfolding look-turn hits reflex
   turns before e p v s h = rw h (go (le zero-float (cross (direction (edge-line (edge f (e .previous)))) (direction (edge-line e)))))
     where
-      go : (z : Bool) → cond z s (rounds (hit-step f t slot (e .previous) p v) 128 s) ≡ rounds (hit-step f t slot (e .previous) p v) (cond (not z) 128 0) s
+      go : (z : Bool) → cond z s (rounds (hit-step f t slot (e .previous) p v) 128 s) ≡ rounds (hit-step f t slot (e .previous) p v) (cond (not z) (used-slots f) 0) s
       go true = sym (no-round (hit-step f t slot (e .previous) p v) s)
-      go false = refl
+      go false = hits-used f t slot (e .previous) p v s
 
   abbrev shrunk : Turn → EventSearch
   shrunk u = search-of (b || u .sooner) (cond (u .sooner) slot k) (cond (u .sooner) (u .step) soon) d x y step
 
   turned : Edge → Turn → EventSearch
-  turned e u = cond (u .lost) (look-stalled now) (rounds (hit-step f t slot (e .previous) (u .at) (u .velocity)) (cond (u .reflex) 128 0) (shrunk u))
+  turned e u = cond (u .lost) (look-stalled now) (rounds (hit-step f t slot (e .previous) (u .at) (u .velocity)) (cond (u .reflex) (used-slots f) 0) (shrunk u))
 
   with-length : Edge → Vertex → Length → EventSearch
   with-length e NoVertex l = look-stalled now
@@ -195,7 +205,7 @@ module _ (f : List Edge) (t : Float) (slot : ℕ) (b : Bool) (k : ℕ) (soon : F
   turned-as before e (Moving p v) NoVertex h = refl
   turned-as before e (Moving p v) (Moving p′ v′) h =
       turns before e p v _ h
-      ∙ ap (rounds (hit-step f t slot (e .previous) p v) (cond (reflex (edge-line before) (edge-line e)) 128 0))
+      ∙ ap (rounds (hit-step f t slot (e .previous) p v) (cond (reflex (edge-line before) (edge-line e)) (used-slots f) 0))
       (shrinks-by (lt (dot (direction (edge-line e)) (sub v′ v)) zero-float)
       (div (fmax (dot (direction (edge-line e)) (sub p′ p)) zero-float) (neg (dot (direction (edge-line e)) (sub v′ v)))))
 
@@ -211,10 +221,6 @@ module _ (f : List Edge) (t : Float) (slot : ℕ) (b : Bool) (k : ℕ) (soon : F
       ∙ turned-as (edge f ((edge f slot) .previous)) (edge f slot) (vertex f slot t) (vertex f ((edge f slot) .next) t) refl
 
   module _ (e : Edge) (ee : e ≡ edge f slot) where
-    pub dead-slot : e .alive ≡ false → look-step f t slot now ≡ now
-    unfolding look-step look-at search-of
-    dead-slot h = rw (← ee, h) refl
-
     module _ (before after back : Edge) (u : Turn) (ea : e .alive ≡ true) (eb : before ≡ edge f (e .previous)) (en : after ≡ edge f (e .next)) (ek : back ≡ edge f (after .previous))
         (eu : u ≡ turn-at before e back after t b soon) where
       live-turn : look-step f t slot now ≡ turned e u
@@ -226,6 +232,6 @@ module _ (f : List Edge) (t : Float) (slot : ℕ) (b : Bool) (k : ℕ) (soon : F
 
       pub turn-on : (k′ : ℕ) (soon′ : Float) → k′ ≡ cond (u .sooner) slot k → soon′ ≡ cond (u .sooner) (u .step) soon → u .lost ≡ false →
           look-step f t slot now
-          ≡ rounds (hit-step f t slot (e .previous) (u .at) (u .velocity)) (cond (u .reflex) 128 0) (search-of (b || u .sooner) k′ soon′ d x y step)
+          ≡ rounds (hit-step f t slot (e .previous) (u .at) (u .velocity)) (cond (u .reflex) (used-slots f) 0) (search-of (b || u .sooner) k′ soon′ d x y step)
       unfolding turned
       turn-on k′ soon′ ek′ es l = live-turn ∙ rw (l, ek′, es) refl

@@ -1,6 +1,7 @@
 -- The search for the next event as the code holds it: what it has found, in scalars, and what one turn reads of the edges, by value. Assumes nothing.
-use Prim.Native.Nat.{ℕ}
+use Prim.Native.Nat.{ℕ, _+_}
 use mathlib.Core.Bool.{Bool, true, false, cond, not, _&&_, _||_}
+use mathlib.Core.List.{List}
 use lib.Ieee.{Float, lt, le, neg}
 use Rattle.plane.specs.declared.PlanarPoint.{PlanarPoint}
 use Rattle.front.specs.declared.Edge.{Edge}
@@ -14,7 +15,6 @@ use Rattle.front.specs.declared.SoonestCollapse.{SoonestCollapse}
 use Rattle.front.specs.declared.SoonestCollapse.the-variants.{NoCollapse, CollapseAfter}
 use Rattle.front.specs.declared.SoonestSplit.{SoonestSplit}
 use Rattle.front.specs.declared.SoonestSplit.the-variants.{NoSplit, SplitAfter}
-use Rattle.events.specs.declared.Coming.{Coming}
 use Rattle.events.specs.declared.Corner.{Corner}
 use Rattle.events.specs.declared.Gone.{Gone}
 use Rattle.events.specs.declared.Struck.{Struck}
@@ -23,8 +23,9 @@ use Rattle.math.specs.Number
 use Rattle.math.specs.Number.{add, zero-float, div, one, fmax}
 use Rattle.plane.specs.Plane.{dot, cross}
 use Rattle.front.specs.Lines.{direction, normal, velocity}
-use Rattle.front.specs.Edges.{edge-line, vertex-by, moved-by}
+use Rattle.front.specs.Edges.{edge, edge-line, vertex-by, moved-by}
 use Rattle.front.specs.NextEvent.{hit-within}
+use Rattle.loops.specs.Loop.{rounds}
 use Rattle.lines.specs.Moving.{length-between}
 
 -- ---- what the search has found, while no vertex without a velocity was met
@@ -41,14 +42,12 @@ search-of shrinks gone soon splits vertex hit step =
 
 -- ---- a vertex at p with velocity v, against an edge
 
--- whether it comes to the edge's line, by the speed and the way, and after which step
-unfoldable pub coming-by : Float → Float → Coming
-coming-by closing way =
-    record { ahead = not (le zero-float closing) && not (lt (div way closing) zero-float); step = div way closing }
+-- how fast it leaves the edge's line behind, and after which step it is there, at this speed
+unfoldable pub closing : Edge → PlanarPoint → Float
+closing target v = Number.sub (dot (normal (edge-line target)) v) one
 
-unfoldable pub approach : Edge → PlanarPoint → PlanarPoint → Float → Coming
-approach target p v t =
-    coming-by (Number.sub (dot (normal (edge-line target)) v) one) (Number.sub (add ((edge-line target) .c) t) (dot (normal (edge-line target)) p))
+unfoldable pub step-to : Edge → PlanarPoint → Float → Float → Float
+step-to target p t speed = div (Number.sub (add ((edge-line target) .c) t) (dot (normal (edge-line target)) p)) speed
 
 -- whether it hits the edge at p, the edge's two vertices being there
 unfoldable pub strike : Edge → PlanarPoint → Vertex → Vertex → Struck
@@ -99,3 +98,16 @@ turn-at before e back after t shrinks soon = turn-from before e (start-of before
 unfoldable pub strike-at : Edge → Edge → Edge → Edge → PlanarPoint → PlanarPoint → Float → Float → Struck
 strike-at before target back after p v step t =
     strike target (moved-by p v step) (start-of before target (add t step)) (start-of back after (add t step))
+
+-- ---- the slots that the search goes through: past the last live one no turn changes anything
+
+unfoldable pub used-step : List Edge → ℕ → ℕ → ℕ
+used-step f k used = cond ((edge f k) .alive) (k + 1) used
+
+unfoldable pub used-slots : List Edge → ℕ
+used-slots f = rounds (used-step f) 128 0
+
+-- opens every definition above, for a proof that computes with all of them
+unfoldable pub open-found : Unit {0}
+unfolding collapse-of split-of search-of closing step-to strike shrink corner-of reflex start-of turn-by turn-from turn-at strike-at used-step used-slots
+open-found = tt

@@ -9,12 +9,6 @@ use front::Line;
 use front::Vertex;
 use plane::PlanarPoint;
 
-// How a vertex comes to an edge's line: whether it does, and after which step.
-pub struct Coming {
-    pub ahead: bool,
-    pub step: f64,
-}
-
 // Whether a vertex hits an edge. `lost`: a vertex of the edge has no velocity.
 pub struct Struck {
     pub lost: bool,
@@ -44,18 +38,19 @@ pub struct Corner {
     pub velocity: PlanarPoint,
 }
 
-// A vertex at p with velocity v against the line of an edge.
-pub fn approach(target: Edge, p: PlanarPoint, v: PlanarPoint, t: f64) -> Coming
-    ensures { λ r. ⌜ r ≡ Found.approach target p v t ⌝ }
+// How fast a vertex with velocity v leaves an edge's line behind: below 0 it comes to it.
+pub fn closing(target: Edge, v: PlanarPoint) -> f64
+    ensures { λ r. ⌜ r ≡ Found.closing target v ⌝ }
+{
+    plane::dot(lines::normal(target.line), v) - 1.0
+}
+
+// After which step a vertex at p comes to an edge's line, at this speed.
+pub fn step_to(target: Edge, p: PlanarPoint, t: f64, speed: f64) -> f64
+    ensures { λ r. ⌜ r ≡ Found.step-to target p t speed ⌝ }
 {
     let line = target.line;
-    let n = lines::normal(line);
-    let closing = plane::dot(n, v) - 1.0;
-    let step = (line.c + t - plane::dot(n, p)) / closing;
-    Coming {
-        ahead: !(closing >= 0.0) & !(step < 0.0),
-        step: step,
-    }
+    (line.c + t - plane::dot(lines::normal(line), p)) / speed
 }
 
 // Whether p lies between two points along u, with the slack.
@@ -212,6 +207,20 @@ pub fn strike_at(
     strike(target, lines::moved_by(p, v, step), from, to)
 }
 
+// Past this many slots no edge is alive.
+pub fn used_slots(edges: [Edge; 128]) -> usize
+    ensures { λ r. ⌜ r ≡ Found.used-slots edges ⌝ }
+{
+    let mut used = 0;
+    let mut i = 0;
+    while i < 128 {
+        let e = edges[i];
+        i += 1;
+        used = ring::choose(e.alive, i, used);
+    }
+    used
+}
+
 // The soonest event after offset t. A vertex without a velocity ends the search.
 pub fn next_event(edges: [Edge; 128], t: f64) -> Event
     ensures { λ r. ⌜ r ≡ NextEvent.next-event edges t ⌝ }
@@ -223,12 +232,14 @@ pub fn next_event(edges: [Edge; 128], t: f64) -> Event
     let mut vertex = 0;
     let mut hit = 0;
     let mut step = 0.0;
+    let used = used_slots(edges);
     let mut i = 0;
-    while i < 128 {
+    while i < used {
         let slot = i;
         i += 1;
         let e = edges[slot];
         if e.alive {
+            // the edge before e, the edge after it, and the one before that
             let p = e.previous;
             let before = lines::edge_or(p < 128, edges[ring::choose(p < 128, p, 0)]);
             let n = e.next;
@@ -242,32 +253,32 @@ pub fn next_event(edges: [Edge; 128], t: f64) -> Event
             shrinks = shrinks | turn.sooner;
             gone = ring::choose(turn.sooner, slot, gone);
             soon = math::choose(turn.sooner, turn.step, soon);
-            let end = ring::choose(turn.reflex, 128, 0);
+            let end = ring::choose(turn.reflex, used, 0);
             let mut j = 0;
             while j < end {
                 let other = j;
                 j += 1;
                 let target = edges[other];
-                let c = approach(target, turn.at, turn.velocity, t);
-                if target.alive
-                    & ((other != slot) & (other != p))
-                    & c.ahead
-                    & !(splits & (c.step >= step))
-                {
-                    let q = target.previous;
-                    let first = lines::edge_or(q < 128, edges[ring::choose(q < 128, q, 0)]);
-                    let m = target.next;
-                    let last = lines::edge_or(m < 128, edges[ring::choose(m < 128, m, 0)]);
-                    let d = last.previous;
-                    let own = lines::edge_or(d < 128, edges[ring::choose(d < 128, d, 0)]);
-                    let h = strike_at(first, target, own, last, turn.at, turn.velocity, c.step, t);
-                    if h.lost {
-                        return Event::Stalled;
+                let speed = closing(target, turn.velocity);
+                if target.alive & ((other != slot) & (other != p)) & !(speed >= 0.0) {
+                    let s = step_to(target, turn.at, t, speed);
+                    if !(s < 0.0) & !(splits & (s >= step)) {
+                        // the same of the target
+                        let q = target.previous;
+                        let first = lines::edge_or(q < 128, edges[ring::choose(q < 128, q, 0)]);
+                        let m = target.next;
+                        let last = lines::edge_or(m < 128, edges[ring::choose(m < 128, m, 0)]);
+                        let d = last.previous;
+                        let own = lines::edge_or(d < 128, edges[ring::choose(d < 128, d, 0)]);
+                        let h = strike_at(first, target, own, last, turn.at, turn.velocity, s, t);
+                        if h.lost {
+                            return Event::Stalled;
+                        }
+                        splits = splits | h.on;
+                        vertex = ring::choose(h.on, slot, vertex);
+                        hit = ring::choose(h.on, other, hit);
+                        step = math::choose(h.on, s, step);
                     }
-                    splits = splits | h.on;
-                    vertex = ring::choose(h.on, slot, vertex);
-                    hit = ring::choose(h.on, other, hit);
-                    step = math::choose(h.on, c.step, step);
                 }
             }
         }

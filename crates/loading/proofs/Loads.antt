@@ -4,7 +4,7 @@ use mathlib.Core.Bool.{Bool, true, false, cond, _&&_, false≢true}
 use mathlib.Core.List.{List}
 use mathlib.Core.Path.{_≡_, refl, sym, ap, _∙_}
 use native.Mathlib.Omega.{arith}
-use native.Mathlib.Nat.{lt-of-le-of-lt}
+use native.Mathlib.Nat.{lt-of-le-of-lt, not-le-of-lt}
 use mir.Syntax.{w64}
 use mir.Val.{Fits}
 use mir.Facts.{fits-of-lt}
@@ -69,14 +69,6 @@ before-lt n k l = go (eqb k 0)
 abbrev pub loaded-at : List Edge → ℕ → ℕ → Refusal → Loaded
 loaded-at f used rings r = record { edges = f; used = used; rings = rings; refusal = r }
 
-pub none-yet : (step : ℕ → Loaded → Loaded) (f : List Edge) (used rings : ℕ) →
-    rounds step 0 (loaded-at f used rings Granted) ≡ loaded-at f (used + 0) rings Granted
-none-yet step f used rings = no-round _ _ ∙ ap (λ (m : ℕ). loaded-at f m rings Granted) (omega arith)
-
-pub begun : (s : Loaded) → granted (s .refusal) ≡ true → ring-begun s ≡ loaded-at (s .edges) (s .used) (s .rings + 1) Granted
-unfolding ring-begun
-begun s g = ap (loaded-at (s .edges) (s .used) (s .rings + 1)) (granted-is (s .refusal) g)
-
 -- the line of edge k, as the code comes by it
 pub line-is : (ps : List Float) (n : ℕ) (back : Bool) (origin : PlanarPoint) (k f : ℕ) (a b : PlanarPoint) (x y : Through) →
     a ≡ load-vertex ps n back origin k → f ≡ following n k → b ≡ load-vertex ps n back origin f → x ≡ through a b → x ≡ y →
@@ -86,72 +78,84 @@ line-is ps n back origin k f a b x y ea ef eb ex ey =
     (sym ey ∙ ex ∙ ap (λ (z : PlanarPoint). through z b) ea ∙
     ap (through (load-vertex ps n back origin k)) (eb ∙ ap (load-vertex ps n back origin) ef))
 
-module _ (ps : List Float) (n : ℕ) (back : Bool) (origin : PlanarPoint) (d : Float) where
-  -- a ring into a front that is refused already
-  pub not-begun : (s : Loaded) → granted (s .refusal) ≡ false → loaded-at (s .edges) (s .used) (s .rings + 1) (s .refusal) ≡ load-ring ps n back origin d s
-  unfolding load-ring load-step ring-begun
-  not-begun s g = sym (still (load-step ps n back origin d (s .used)) (ring-begun s) (λ k. rw g refl) n)
+module _ (ps : List Float) (n : ℕ) (back : Bool) (origin : PlanarPoint) (d : Float) (first rings : ℕ) (f₀ : List Edge) (r₀ : Refusal) where
+  -- the state after k turns: nothing is refused before the last
+  abbrev pub So : List Edge → ℕ → Refusal → ℕ → Type 0
+  So f used r k =
+      (k ≤ n) × (rounds (load-step ps n back origin d first) k (loaded-at f₀ first rings r₀) ≡ loaded-at f used rings r) ×
+      (k < n → (r ≡ Granted) × (used ≡ first + k))
 
-  -- the ring is loaded
-  pub whole-ring : (s : Loaded) (k : ℕ) (f : List Edge) → granted (s .refusal) ≡ true → k ≤ n → n ≤ k →
-      rounds (load-step ps n back origin d (s .used)) k (loaded-at (s .edges) (s .used) (s .rings + 1) Granted) ≡ loaded-at f (s .used + k) (s .rings + 1) Granted →
-      loaded-at f (s .used + n) (s .rings + 1) Granted ≡ load-ring ps n back origin d s
-  unfolding load-ring
-  whole-ring s k f g l h e =
-      let same : k ≡ n = omega arith in
-      let step = load-step ps n back origin d (s .used) in
-      sym
-      (ap (rounds step n) (begun s g) ∙ ap (λ (m : ℕ). rounds step m (loaded-at (s .edges) (s .used) (s .rings + 1) Granted)) (sym same) ∙ e ∙
-      ap (λ (m : ℕ). loaded-at f (s .used + m) (s .rings + 1) Granted) same)
+  -- before the first turn; a front that is refused already makes none
+  pub begins : (g : Bool) (k : ℕ) → g ≡ granted r₀ → k ≡ cond g 0 n → So f₀ first r₀ k
+  unfolding load-step
+  begins true k e h =
+      (omega arith, ap (λ (m : ℕ). rounds (load-step ps n back origin d first) m (loaded-at f₀ first rings r₀)) h ∙ no-round _ _, λ l. (granted-is r₀ (sym e), omega arith))
+  begins false k e h = (
+    omega arith,
+    ap (λ (m : ℕ). rounds (load-step ps n back origin d first) m (loaded-at f₀ first rings r₀)) h ∙
+        still (load-step ps n back origin d first) (loaded-at f₀ first rings r₀) (λ m. rw (sym e) refl) n,
+    λ l. absurd (not-le-of-lt l (omega arith)),
+  )
 
-  module _ (first rings k : ℕ) (f₀ f : List Edge) (so-far : rounds (load-step ps n back origin d first) k (loaded-at f₀ first rings Granted) ≡ loaded-at f (first + k) rings Granted) where
+  module _ (f : List Edge) (used k : ℕ) (r : Refusal) (so : So f used r k) (l : k < n) where
     turn : (x : Through) → through (load-vertex ps n back origin k) (load-vertex ps n back origin (following n k)) ≡ x →
-        rounds (load-step ps n back origin d first) (k + 1) (loaded-at f₀ first rings Granted)
-        ≡ load-line d first n k (load-vertex ps n back origin k) (loaded-at f (first + k) rings Granted) x
+        rounds (load-step ps n back origin d first) (k + 1) (loaded-at f₀ first rings r₀)
+        ≡ load-line d first n k (load-vertex ps n back origin k) (loaded-at f used rings Granted) x
     unfolding load-step load-edge granted number values
-    turn x e = next-round _ _ _ ∙ ap (load-step ps n back origin d first k) so-far ∙ ap (load-line d first n k (load-vertex ps n back origin k) (loaded-at f (first + k) rings Granted)) e
+    turn x e =
+        next-round _ _ _ ∙ ap (load-step ps n back origin d first k) (so .1 ∙ ap (loaded-at f used rings) (so .2 l .0)) ∙
+        ap (load-line d first n k (load-vertex ps n back origin k) (loaded-at f used rings Granted)) e
 
     -- one edge more
-    pub load-goes : (l : Line) (a : PlanarPoint) (e : Edge) →
-        through (load-vertex ps n back origin k) (load-vertex ps n back origin (following n k)) ≡ Along l → first + k < 128 →
-        a ≡ load-vertex ps n back origin k → e ≡ loaded-edge l first n k a →
-        rounds (load-step ps n back origin d first) (k + 1) (loaded-at f₀ first rings Granted) ≡ loaded-at (set f (first + k) e) (first + (k + 1)) rings Granted
+    pub load-goes : (e : Line) (a : PlanarPoint) (x : Edge) →
+        through (load-vertex ps n back origin k) (load-vertex ps n back origin (following n k)) ≡ Along e → used < 128 →
+        a ≡ load-vertex ps n back origin k → x ≡ loaded-edge e first n k a → So (set f used x) (used + 1) r (k + 1)
     unfolding load-line has-room
-    load-goes l a e x room ea ee =
-        turn (Along l) x ∙ rw (lt-ltb (first + k) 128 room)
-        (ap (λ (z : PlanarPoint). loaded-at (set f (first + k) (loaded-edge l first n k z)) (first + k + 1) rings Granted) (sym ea) ∙
-        ap (λ (z : Edge). loaded-at (set f (first + k) z) (first + k + 1) rings Granted) (sym ee) ∙
-        ap (λ (m : ℕ). loaded-at (set f (first + k) e) m rings Granted) (omega arith))
+    load-goes e a x is room ea ex =
+        let at : used ≡ first + k = so .2 l .1 in (
+          omega arith,
+          turn (Along e) is ∙ rw (lt-ltb used 128 room)
+              (ap (λ (z : PlanarPoint). loaded-at (set f used (loaded-edge e first n k z)) (used + 1) rings Granted) (sym ea) ∙
+              ap (λ (z : Edge). loaded-at (set f used z) (used + 1) rings Granted) (sym ex) ∙
+              ap (loaded-at (set f used x) (used + 1) rings) (sym (so .2 l .0))),
+          λ m. (so .2 l .0, omega arith),
+        )
 
     -- the first refusal is the last
-    stops : (r : Refusal) → granted r ≡ false → k < n → rounds (load-step ps n back origin d first) (k + 1) (loaded-at f₀ first rings Granted) ≡ loaded-at f (first + k) rings r →
-        rounds (load-step ps n back origin d first) n (loaded-at f₀ first rings Granted) ≡ loaded-at f (first + k) rings r
+    stops : (q : Refusal) → granted q ≡ false → rounds (load-step ps n back origin d first) (k + 1) (loaded-at f₀ first rings r₀) ≡ loaded-at f used rings q → So f used q n
     unfolding load-step
-    stops r g l e = stays-to (load-step ps n back origin d first) (loaded-at f₀ first rings Granted) (loaded-at f (first + k) rings r) (k + 1) n (omega arith) e (λ m. rw g refl)
+    stops q g e = (
+      omega arith,
+      stays-to (load-step ps n back origin d first) (loaded-at f₀ first rings r₀) (loaded-at f used rings q) (k + 1) n (omega arith) e (λ m. rw g refl),
+      λ m. absurd (not-le-of-lt m (omega arith)),
+    )
 
-    stops-empty : k < n → through (load-vertex ps n back origin k) (load-vertex ps n back origin (following n k)) ≡ NoLine →
-        rounds (load-step ps n back origin d first) n (loaded-at f₀ first rings Granted) ≡ loaded-at f (first + k) rings (Collapses d)
-    unfolding load-line load-refused granted number values
-    stops-empty l x = stops (Collapses d) refl l (turn NoLine x)
-
-    stops-full : (e : Line) → k < n → 128 ≤ first + k → through (load-vertex ps n back origin k) (load-vertex ps n back origin (following n k)) ≡ Along e →
-        rounds (load-step ps n back origin d first) n (loaded-at f₀ first rings Granted) ≡ loaded-at f (first + k) rings (Slots (first + k + (n - k)))
-    unfolding load-line load-refused has-room granted number values
-    stops-full e l full x = stops (Slots (first + k + (n - k))) refl l (turn (Along e) x ∙ rw (le-ltb (first + k) 128 full) refl)
-
-  module _ (s : Loaded) (k : ℕ) (f : List Edge) (g : granted (s .refusal) ≡ true) (l : k < n)
-      (so-far : rounds (load-step ps n back origin d (s .used)) k (loaded-at (s .edges) (s .used) (s .rings + 1) Granted) ≡ loaded-at f (s .used + k) (s .rings + 1) Granted) where
     -- an edge of no length
-    pub ring-empty : through (load-vertex ps n back origin k) (load-vertex ps n back origin (following n k)) ≡ NoLine →
-        loaded-at f (s .used + k) (s .rings + 1) (Collapses d) ≡ load-ring ps n back origin d s
-    unfolding load-ring
-    ring-empty x = sym (ap (rounds (load-step ps n back origin d (s .used)) n) (begun s g) ∙ stops-empty (s .used) (s .rings + 1) k (s .edges) f so-far l x)
+    pub stops-empty : through (load-vertex ps n back origin k) (load-vertex ps n back origin (following n k)) ≡ NoLine → So f used (Collapses d) n
+    unfolding load-line load-refused granted number values
+    stops-empty x = stops (Collapses d) refl (turn NoLine x)
 
     -- no room
-    pub ring-full : (e : Line) → 128 ≤ s .used + k → through (load-vertex ps n back origin k) (load-vertex ps n back origin (following n k)) ≡ Along e →
-        loaded-at f (s .used + k) (s .rings + 1) (Slots (s .used + k + (n - k))) ≡ load-ring ps n back origin d s
-    unfolding load-ring
-    ring-full e full x = sym (ap (rounds (load-step ps n back origin d (s .used)) n) (begun s g) ∙ stops-full (s .used) (s .rings + 1) k (s .edges) f so-far e l full x)
+    pub stops-full : (e : Line) → 128 ≤ used → through (load-vertex ps n back origin k) (load-vertex ps n back origin (following n k)) ≡ Along e →
+        So f used (Slots (used + (n - k))) n
+    unfolding load-line load-refused has-room granted number values
+    stops-full e full x = stops (Slots (used + (n - k))) refl (turn (Along e) x ∙ rw (le-ltb used 128 full) refl)
+
+-- the count of the edges, and the edges that are asked for
+pub count-fits : (first n k : ℕ) → first + n < 2 ^ 64 → k < n → Fits w64 (k + 1)
+count-fits first n k h l = let le : k + 1 ≤ first + n = omega arith in fits-of-lt (lt-of-le-of-lt le h)
+
+pub slots-fit : (first used n k : ℕ) → first + n < 2 ^ 64 → k < n → used ≡ first + k → Fits w64 (used + (n - k))
+slots-fit first used n k h l e = let le : used + (n - k) ≤ first + n = omega arith in fits-of-lt (lt-of-le-of-lt le h)
+
+-- the ring is loaded
+pub ring-loaded : (ps : List Float) (n : ℕ) (back : Bool) (origin : PlanarPoint) (d : Float) (s : Loaded) (f : List Edge) (used k : ℕ) (r : Refusal) → k ≤ n → n ≤ k →
+    rounds (load-step ps n back origin d (s .used)) k (loaded-at (s .edges) (s .used) (s .rings + 1) (s .refusal)) ≡ loaded-at f used (s .rings + 1) r →
+    loaded-at f used (s .rings + 1) r ≡ load-ring ps n back origin d s
+unfolding load-ring ring-begun
+ring-loaded ps n back origin d s f used k r l h e =
+    let same : k ≡ n = omega arith in
+    sym e ∙ ap (λ (m : ℕ). rounds (load-step ps n back origin d (s .used)) m (loaded-at (s .edges) (s .used) (s .rings + 1) (s .refusal))) same
 
 -- ---- the next ring, for callers: where the numbers fit it is loaded, and they still fit
 

@@ -54,7 +54,7 @@ pub(crate) fn loaded_edge(l: Line, first: usize, n: usize, k: usize, a: PlanarPo
     }
 }
 
-// One ring of n vertices, into the slots after those in use.
+// One ring of n vertices, into the slots after those in use. The first refusal ends the loop.
 pub(crate) fn load_ring(
     ps: &[f64],
     n: usize,
@@ -68,51 +68,37 @@ pub(crate) fn load_ring(
     ensures { λ r. ⌜ r ≡ Loading.load-ring (now (ps .entry)) n back origin d s ⌝ }
 {
     let mut edges = s.edges;
+    let mut used = s.used;
+    let mut refusal = s.refusal;
     let first = s.used;
     let rings = s.rings + 1;
-    let refusal = s.refusal;
-    if !refusal.granted() {
-        return Loaded {
-            edges: edges,
-            used: first,
-            rings: rings,
-            refusal: refusal,
-        };
-    }
-    let mut k = 0;
+    let mut k = ring::choose(refusal.granted(), 0, n);
     while k < n {
         let a = load_vertex(ps, n, back, origin, k);
         let b = load_vertex(ps, n, back, origin, ring::following(n, k));
         let line = lines::through(a, b);
-        let used = first + k;
         match line {
             Through::NoLine => {
-                return Loaded {
-                    edges: edges,
-                    used: used,
-                    rings: rings,
-                    refusal: Refusal::Collapses(d),
-                };
+                refusal = Refusal::Collapses(d);
+                k = n;
             }
             Through::Along(l) => {
-                if 128 <= used {
-                    return Loaded {
-                        edges: edges,
-                        used: used,
-                        rings: rings,
-                        refusal: Refusal::Slots(used + (n - k)),
-                    };
+                if used < 128 {
+                    edges[used] = loaded_edge(l, first, n, k, a);
+                    used += 1;
+                    k += 1;
+                } else {
+                    refusal = Refusal::Slots(used + (n - k));
+                    k = n;
                 }
-                edges[used] = loaded_edge(l, first, n, k, a);
             }
         }
-        k += 1;
     }
     Loaded {
         edges: edges,
-        used: first + n,
+        used: used,
         rings: rings,
-        refusal: Refusal::Granted,
+        refusal: refusal,
     }
 }
 

@@ -9,22 +9,18 @@ pub struct Bounds {
     pub high: PlanarPoint,
 }
 
-pub fn area_step(ps: &[f64], n: usize, k: usize, s: f64) -> f64
-    ensures { λ r. ⌜ r ≡ Measures.area-step (now (ps .entry)) n k s ⌝ }
-{
-    let first = ring::vertex_at(ps, 0);
-    let a = plane::sub(ring::vertex_at(ps, k), first);
-    let b = plane::sub(ring::edge_end(ps, n, k), first);
-    s + plane::cross(a, b)
-}
-
+// Each edge starts where the last one ends.
 pub fn signed_area(ps: &[f64], n: usize) -> f64
     ensures { λ r. ⌜ r ≡ Measures.signed-area (now (ps .entry)) n ⌝ }
 {
+    let first = ring::vertex_at(ps, 0);
+    let mut a = plane::sub(first, first);
     let mut s = 0.0;
     let mut k = 0;
     while k < n {
-        s = area_step(ps, n, k, s);
+        let b = plane::sub(ring::edge_end(ps, n, k), first);
+        s += plane::cross(a, b);
+        a = b;
         k += 1;
     }
     s / 2.0

@@ -1,23 +1,22 @@
 -- What a finished ring comes to, branch by branch of the code. Assumes nothing.
 use Prim.Native.Nat.{ℕ}
-use mathlib.Core.Bool.{Bool, true, false, not, _&&_}
+use mathlib.Core.Bool.{Bool, true, false, cond, _&&_}
 use mathlib.Core.List.{List}
-use mathlib.Core.Path.{_≡_, refl, sym, ap, _∙_}
+use mathlib.Core.Path.{_≡_, refl, sym, ap, _∙_, subst}
+use lib.Dec.{eqb}
 use lib.Ieee.{Float, le}
 use Rattle.error.specs.declared.Refusal.{Refusal}
-use Rattle.error.specs.declared.Refusal.the-variants.{Granted, Splits}
-use Rattle.error.specs.Refusals.{granted, degenerate, offset-failure}
+use Rattle.error.specs.declared.Refusal.the-variants.{Splits, Collapses}
+use Rattle.error.specs.Refusals.{values, number, granted, degenerate, offset-failure}
 use Rattle.math.specs.Number.{abs, mul}
 use Rattle.measures.specs.Measures.{signed-area}
 use Rattle.ringcheck.specs.declared.Checked.{Checked}
-use Rattle.polygon.specs.declared.Outline.{Outline}
-use Rattle.polygon.specs.Outlines.{no-outline, stored-outline}
+use Rattle.ringcheck.specs.Checks.{check-ring}
 use Rattle.front.specs.declared.Walk.{Walk}
 use Rattle.offset.specs.declared.Piece.{Piece}
 use Rattle.offset.specs.declared.Piece.the-variants.{Shrunk, Failed, Whole}
-use Rattle.offset.specs.declared.Pieces.{Pieces}
-use Rattle.offset.specs.Rings.{vanished, piece-by}
-use Rattle.offset.specs.Offsets.{expected, pieces-refused, with-piece}
+use Rattle.offset.specs.Rings.{check-piece, vanished, piece-by, offset-piece}
+use Rattle.pieces.specs.Numbers.{checked-piece, ring-piece}
 
 module _ (ps : List Float) (n : ℕ) (tolerance : Float) (r : Refusal) (b : Bool) (is : b ≡ degenerate r) where
   pub vanished-by : (area size : Float) → b ≡ true → area ≡ signed-area ps n → size ≡ abs area → le size (mul tolerance tolerance) ≡ vanished ps n tolerance r
@@ -30,46 +29,57 @@ module _ (ps : List Float) (n : ℕ) (tolerance : Float) (r : Refusal) (b : Bool
   unfolding vanished
   not-vanished h = sym (ap (λ (z : Bool). z && le (abs (signed-area ps n)) (mul tolerance tolerance)) (sym is ∙ h))
 
-module _ (d tolerance : Float) (w : Walk) (c : Checked) (b : Bool) (is : b ≡ granted (c .refusal)) where
-  pub piece-whole : b ≡ true → Whole (c .count) (c .back) ≡ piece-by d tolerance w c
-  unfolding piece-by
+module _ (d tolerance : Float) (ps : List Float) (n : ℕ) (c : Checked) (b : Bool) (is : b ≡ granted (c .refusal)) where
+  pub piece-whole : b ≡ true → Whole (c .count) (c .back) ≡ checked-piece d tolerance ps n c
+  unfolding checked-piece
   piece-whole h = rw (sym is ∙ h) refl
 
-  module _ (left : b ≡ false) (v : Bool) (gone : v ≡ vanished (w .points) (w .count) tolerance (c .refusal)) where
-    pub piece-shrunk : v ≡ true → Shrunk ≡ piece-by d tolerance w c
-    unfolding piece-by
+  module _ (left : b ≡ false) (v : Bool) (gone : v ≡ vanished ps n tolerance (c .refusal)) where
+    pub piece-shrunk : v ≡ true → Shrunk ≡ checked-piece d tolerance ps n c
+    unfolding checked-piece
     piece-shrunk h = rw (sym is ∙ left, sym gone ∙ h) refl
 
-    pub piece-failed : (f : Refusal) → v ≡ false → f ≡ offset-failure d (c .refusal) → Failed f ≡ piece-by d tolerance w c
-    unfolding piece-by
+    pub piece-failed : (f : Refusal) → v ≡ false → f ≡ offset-failure d (c .refusal) → Failed f ≡ checked-piece d tolerance ps n c
+    unfolding checked-piece
     piece-failed f h e = rw (sym is ∙ left, sym gone ∙ h) (ap Failed e)
 
-abbrev pieces-at : Refusal → Bool → Outline → Pieces
-pieces-at r found o = record { refusal = r; found = found; shape = o }
+-- a ring by its numbers, and as it was walked
+pub ring-piece-is : (room place : ℕ) (d tolerance : Float) (w : Walk) (x y : Piece) →
+    x ≡ ring-piece room place d tolerance (w .lost) (w .points) (w .count) → x ≡ y → offset-piece room place d tolerance w ≡ y
+unfolding offset-piece piece-by check-piece ring-piece checked-piece
+ring-piece-is room place d tolerance w x y e h = sym e ∙ h
 
-pub refused-as : (r : Refusal) (o : Outline) → o ≡ no-outline → pieces-at r false o ≡ pieces-refused r
-unfolding pieces-refused
-refused-as r o e = ap (pieces-at r false) e
+-- ---- a ring that failed is refused
 
-module _ (outward : Bool) (d : Float) (w : Walk) (s : Pieces) (p : Piece) where
-  pub with-shrunk : p ≡ Shrunk → s ≡ with-piece outward d w s p
-  unfolding with-piece
-  with-shrunk h = sym (ap (with-piece outward d w s) h)
+unfoldable Refuses : Piece → Type 0
+Refuses Shrunk = Unit
+Refuses (Failed r) = granted r ≡ false
+Refuses (Whole n back) = Unit
 
-  pub with-failed : (r : Refusal) (x : Pieces) → p ≡ Failed r → x ≡ pieces-refused r → x ≡ with-piece outward d w s p
-  unfolding with-piece
-  with-failed r x h e = e ∙ sym (ap (with-piece outward d w s) h)
+failure-refuses : (d : Float) (r : Refusal) → granted r ≡ false → granted (offset-failure d r) ≡ false
+unfolding offset-failure granted number values
+failure-refuses d r h = go (degenerate r) (eqb (number r) 9)
+  where
+    go : (a b : Bool) → granted (cond a (Collapses d) (cond b (Splits d) r)) ≡ false
+    go true b = refl
+    go false true = refl
+    go false false = h
 
-  module _ (n : ℕ) (back : Bool) (whole : p ≡ Whole n back) (area : Float) (b : Bool) (ea : area ≡ signed-area (w .points) (w .count)) (eb : b ≡ expected outward area) where
-    test : (b && not (s .found)) ≡ (expected outward (signed-area (w .points) (w .count)) && not (s .found))
-    test = ap (λ (z : Bool). z && not (s .found)) (eb ∙ ap (expected outward) ea)
+checked-refuses : (d tolerance : Float) (ps : List Float) (n : ℕ) (c : Checked) → Refuses (checked-piece d tolerance ps n c)
+unfolding checked-piece Refuses
+checked-refuses d tolerance ps n c = go (granted (c .refusal)) refl (vanished ps n tolerance (c .refusal))
+  where
+    go : (a : Bool) → granted (c .refusal) ≡ a → (b : Bool) → Refuses (cond a (Whole (c .count) (c .back)) (cond b Shrunk (Failed (offset-failure d (c .refusal)))))
+    go true h b = tt
+    go false h true = tt
+    go false h false = failure-refuses d (c .refusal) h
 
-    pub with-whole : (o : Outline) → (b && not (s .found)) ≡ true → o ≡ stored-outline (w .points) n back → pieces-at Granted true o ≡ with-piece outward d w s p
-    unfolding with-piece
-    with-whole o h e =
-        ap (pieces-at Granted true) e ∙
-        sym (ap (with-piece outward d w s) whole ∙ rw (sym test ∙ h) refl)
+piece-refuses : (room place : ℕ) (d tolerance : Float) (lost : Bool) (ps : List Float) (n : ℕ) → Refuses (ring-piece room place d tolerance lost ps n)
+unfolding ring-piece Refuses granted number values
+piece-refuses room place d tolerance true ps n = refl
+piece-refuses room place d tolerance false ps n = checked-refuses d tolerance ps n (check-ring room place ps n)
 
-    pub with-another : (x : Pieces) → (b && not (s .found)) ≡ false → x ≡ pieces-refused (Splits d) → x ≡ with-piece outward d w s p
-    unfolding with-piece
-    with-another x h e = e ∙ sym (ap (with-piece outward d w s) whole ∙ rw (sym test ∙ h) refl)
+pub failed-refuses : (room place : ℕ) (d tolerance : Float) (lost : Bool) (ps : List Float) (n : ℕ) (x : Piece) (r : Refusal) →
+    x ≡ ring-piece room place d tolerance lost ps n → x ≡ Failed r → granted r ≡ false
+unfolding Refuses
+failed-refuses room place d tolerance lost ps n x r e h = subst Refuses (sym e ∙ h) (piece-refuses room place d tolerance lost ps n)

@@ -4,20 +4,33 @@ use mathlib.Core.Bool.{Bool, true, false, cond, not, _&&_}
 use mathlib.Core.List.{List}
 use mathlib.Core.Path.{_≡_, refl, sym, ap, _∙_}
 use native.Mathlib.Omega.{arith}
+use borrow.Author.Tests.{not-true, not-false}
 use lib.ListN.{getD, replicate}
 use lib.Ieee.{Float}
-use Rattle.error.specs.declared.Refusal.the-variants.{Granted}
+use Rattle.error.specs.declared.Refusal.{Refusal}
+use Rattle.error.specs.declared.Refusal.the-variants.{Granted, Splits}
 use Rattle.error.specs.Refusals.{granted, number, values}
 use Rattle.loops.specs.Loop.{rounds}
 use Rattle.loops.proofs.Laws.{no-round, next-round, stays-to}
+use Rattle.measures.specs.Measures.{signed-area}
 use Rattle.plane.specs.declared.PlanarPoint.{PlanarPoint}
+use Rattle.polygon.specs.declared.Outline.{Outline}
+use Rattle.polygon.specs.Outlines.{no-outline, stored-outline}
 use Rattle.front.specs.declared.Edge.{Edge}
 use Rattle.front.specs.declared.Walk.{Walk}
 use Rattle.front.specs.Edges.{blank}
 use Rattle.front.specs.Finished.{Visits, walk, starts, visited, visit-step, visits-from, for-each-ring}
 use Rattle.front.proofs.EdgeLaws.{edge-in}
+use Rattle.offset.specs.declared.Piece.{Piece}
+use Rattle.offset.specs.declared.Piece.the-variants.{Shrunk, Failed, Whole}
 use Rattle.offset.specs.declared.Pieces.{Pieces}
-use Rattle.offset.specs.Offsets.{pieces-refused, pieces-refusal, visit-piece, pieces}
+use Rattle.offset.specs.Offsets.{expected, with-piece, pieces-refused, pieces-refusal, visit-piece, pieces}
+use Rattle.pieces.specs.Numbers.{ring-piece}
+use Rattle.pieces.proofs.Comes.{ring-piece-is, failed-refuses}
+
+-- what the rings have come to, how many they were, and the slots that they have passed
+abbrev pub pieces-at : Refusal → Bool → Outline → Pieces
+pieces-at r found o = record { refusal = r; found = found; shape = o }
 
 abbrev pub visits-at : Pieces → ℕ → List Bool → Visits Pieces
 visits-at made place seen = record { made = made; place = place; seen = seen }
@@ -27,53 +40,88 @@ piece-step f origin outward d tolerance = visit-step pieces-refusal (visit-piece
 
 -- before the first slot
 abbrev pub no-visits : Visits Pieces
-no-visits = visits-from (pieces-refused Granted)
+no-visits = visits-from (pieces-at Granted false no-outline)
 
-pub none-made : (step : ℕ → Visits Pieces → Visits Pieces) (m : Pieces) → m ≡ pieces-refused Granted → rounds step 0 no-visits ≡ visits-at m 0 (replicate 128 false)
+pub none-made : (step : ℕ → Visits Pieces → Visits Pieces) (o : Outline) → o ≡ no-outline → rounds step 0 no-visits ≡ visits-at (pieces-at Granted false o) 0 (replicate 128 false)
 unfolding visits-from
-none-made step m e = no-round _ _ ∙ ap (λ (z : Pieces). visits-at z 0 (replicate 128 false)) (sym e)
+none-made step o e = no-round _ _ ∙ ap (λ (z : Outline). visits-at (pieces-at Granted false z) 0 (replicate 128 false)) (sym e)
 
-pub none-refused : (m : Pieces) → m ≡ pieces-refused Granted → granted (m .refusal) ≡ true
-unfolding pieces-refused granted number values
-none-refused m e = ap (λ (z : Pieces). granted (z .refusal)) e
+pub one-more : (place k : ℕ) → place ≤ k → place + 1 ≤ k + 1
+one-more place k l = omega arith
+
+pub refused-as : (r : Refusal) (o : Outline) → o ≡ no-outline → pieces-at r false o ≡ pieces-refused r
+unfolding pieces-refused
+refused-as r o e = ap (pieces-at r false) e
 
 -- whether a ring starts at a slot, as the code reads it
 starts-as : (f : List Edge) (seen : List Bool) (k : ℕ) (b : Bool) → k < 128 → ((getD f k blank) .alive && not (getD seen k false)) ≡ b → starts f seen k ≡ b
 unfolding starts
 starts-as f seen k b l h = ap (λ (e : Edge). e .alive && not (getD seen k false)) (edge-in f k l) ∙ h
 
-module _ (f : List Edge) (origin : PlanarPoint) (outward : Bool) (d tolerance : Float) (k place : ℕ) (made : Pieces) (seen : List Bool) (l : k < 128)
-    (so-far : rounds (piece-step f origin outward d tolerance) k no-visits ≡ visits-at made place seen) (fine : granted (made .refusal) ≡ true) where
+module _ (f : List Edge) (origin : PlanarPoint) (outward : Bool) (d tolerance : Float) (k place : ℕ) (found : Bool) (shape : Outline) (seen : List Bool) (l : k < 128)
+    (so-far : rounds (piece-step f origin outward d tolerance) k no-visits ≡ visits-at (pieces-at Granted found shape) place seen) where
   turn : (b : Bool) → starts f seen k ≡ b → rounds (piece-step f origin outward d tolerance) (k + 1) no-visits
-      ≡ cond b (visited (visit-piece outward d tolerance) (visits-at made place seen) (walk f d origin k seen)) (visits-at made place seen)
-  unfolding visit-step pieces-refusal
-  turn b e = next-round _ _ _ ∙ ap (piece-step f origin outward d tolerance k) so-far ∙ rw (fine, e) refl
+      ≡ cond b (visited (visit-piece outward d tolerance) (visits-at (pieces-at Granted found shape) place seen) (walk f d origin k seen)) (visits-at (pieces-at Granted found shape) place seen)
+  unfolding visit-step pieces-refusal granted number values
+  turn b e = next-round _ _ _ ∙ ap (piece-step f origin outward d tolerance k) so-far ∙ rw e refl
 
   -- no ring starts here
-  pub passes-on : ((getD f k blank) .alive && not (getD seen k false)) ≡ false → rounds (piece-step f origin outward d tolerance) (k + 1) no-visits ≡ visits-at made place seen
+  pub passes-on : ((getD f k blank) .alive && not (getD seen k false)) ≡ false →
+      rounds (piece-step f origin outward d tolerance) (k + 1) no-visits ≡ visits-at (pieces-at Granted found shape) place seen
   passes-on h = turn false (starts-as f seen k false l h)
 
-  module _ (w : Walk) (x : Pieces) (on : ((getD f k blank) .alive && not (getD seen k false)) ≡ true) (ew : w ≡ walk f d origin k seen) (ex : x ≡ visit-piece outward d tolerance place w made) where
-    -- a ring is visited
-    pub visits-on : rounds (piece-step f origin outward d tolerance) (k + 1) no-visits ≡ visits-at x (place + 1) (w .seen)
-    unfolding visited
-    visits-on =
+  module _ (w : Walk) (x : Piece) (on : ((getD f k blank) .alive && not (getD seen k false)) ≡ true) (ew : w ≡ walk f d origin k seen)
+      (ex : x ≡ ring-piece 128 place d tolerance (w .lost) (w .points) (w .count)) where
+    visits-on : (y : Piece) → x ≡ y → rounds (piece-step f origin outward d tolerance) (k + 1) no-visits
+        ≡ visits-at (with-piece outward d w (pieces-at Granted found shape) y) (place + 1) (w .seen)
+    unfolding visited visit-piece
+    visits-on y h =
         turn true (starts-as f seen k true l on) ∙
-        ap (λ (z : Walk). visits-at (visit-piece outward d tolerance place z made) (place + 1) (z .seen)) (sym ew) ∙
-        ap (λ (z : Pieces). visits-at z (place + 1) (w .seen)) (sym ex)
+        ap (λ (z : Walk). visits-at (visit-piece outward d tolerance place z (pieces-at Granted found shape)) (place + 1) (z .seen)) (sym ew) ∙
+        ap (λ (z : Piece). visits-at (with-piece outward d w (pieces-at Granted found shape) z) (place + 1) (w .seen)) (ring-piece-is 128 place d tolerance w x y ex h)
 
     -- the first refusal is the last
-    pub visits-end : granted (x .refusal) ≡ false → x ≡ pieces f origin outward d tolerance
-    unfolding pieces for-each-ring visit-step pieces-refusal pieces-refused
-    visits-end h =
+    ends-at : (y : Pieces) → granted (y .refusal) ≡ false → rounds (piece-step f origin outward d tolerance) (k + 1) no-visits ≡ visits-at y (place + 1) (w .seen) →
+        y ≡ pieces f origin outward d tolerance
+    unfolding pieces for-each-ring visit-step pieces-refusal
+    ends-at y h e =
         sym
         (ap (λ (z : Visits Pieces). z .made)
-        (stays-to (piece-step f origin outward d tolerance) no-visits (visits-at x (place + 1) (w .seen)) (k + 1) 128 (omega arith) visits-on (λ m. rw h refl)))
+        (stays-to (piece-step f origin outward d tolerance) no-visits (visits-at y (place + 1) (w .seen)) (k + 1) 128 (omega arith) e (λ m. rw h refl)))
+
+    -- the ring shrank to nothing
+    pub shrinks : x ≡ Shrunk → rounds (piece-step f origin outward d tolerance) (k + 1) no-visits ≡ visits-at (pieces-at Granted found shape) (place + 1) (w .seen)
+    unfolding with-piece
+    shrinks h = visits-on Shrunk h
+
+    -- it is refused
+    pub fails : (r : Refusal) (y : Pieces) → x ≡ Failed r → y ≡ pieces-refused r → y ≡ pieces f origin outward d tolerance
+    unfolding with-piece pieces-refused
+    fails r y h e =
+        ends-at y (ap (λ (z : Pieces). granted (z .refusal)) e ∙ failed-refuses 128 place d tolerance (w .lost) (w .points) (w .count) x r ex h)
+        (visits-on (Failed r) h ∙ ap (λ (z : Pieces). visits-at z (place + 1) (w .seen)) (sym e))
+
+    module _ (n : ℕ) (back : Bool) (whole : x ≡ Whole n back) (area : Float) (b : Bool) (ea : area ≡ signed-area (w .points) (w .count)) (eb : b ≡ expected outward area) where
+      test : (t : Bool) → (b && not found) ≡ t → (expected outward (signed-area (w .points) (w .count)) && not found) ≡ t
+      test t h = sym (ap (λ (z : Bool). z && not found) (eb ∙ ap (expected outward) ea)) ∙ h
+
+      -- it is the piece
+      pub keeps : (o : Outline) → not (b && not found) ≡ false → o ≡ stored-outline (w .points) n back →
+          rounds (piece-step f origin outward d tolerance) (k + 1) no-visits ≡ visits-at (pieces-at Granted true o) (place + 1) (w .seen)
+      unfolding with-piece
+      keeps o h e = visits-on (Whole n back) whole ∙ rw (test true (not-false _ h)) (ap (λ (z : Outline). visits-at (pieces-at Granted true z) (place + 1) (w .seen)) (sym e))
+
+      -- it is another piece, or lies on the wrong side
+      pub another : (y : Pieces) → not (b && not found) ≡ true → y ≡ pieces-refused (Splits d) → y ≡ pieces f origin outward d tolerance
+      unfolding with-piece pieces-refused granted number values
+      another y h e =
+          ends-at y (ap (λ (z : Pieces). granted (z .refusal)) e)
+          (visits-on (Whole n back) whole ∙ rw (test false (not-true _ h)) (ap (λ (z : Pieces). visits-at z (place + 1) (w .seen)) (sym e)))
 
 -- every slot is passed
 pub all-passed : (f : List Edge) (origin : PlanarPoint) (outward : Bool) (d tolerance : Float) (k place : ℕ) (made : Pieces) (seen : List Bool) → k ≤ 128 → 128 ≤ k →
     rounds (piece-step f origin outward d tolerance) k no-visits ≡ visits-at made place seen → made ≡ pieces f origin outward d tolerance
-unfolding pieces for-each-ring pieces-refused
+unfolding pieces for-each-ring
 all-passed f origin outward d tolerance k place made seen l h e =
     let same : k ≡ 128 = omega arith in
     ap (λ (z : Visits Pieces). z .made) (sym e ∙ ap (λ (m : ℕ). rounds (piece-step f origin outward d tolerance) m no-visits) same)

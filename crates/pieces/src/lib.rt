@@ -2,9 +2,9 @@
 ghost use mathlib.Core.Path.{_≡_};
 ghost use Rattle.offset.specs.Offsets;
 ghost use Rattle.offset.specs.Rings;
+ghost use Rattle.pieces.specs.Numbers;
 use error::Refusal;
 use front::Edge;
-use front::Walk;
 use offset::Piece;
 use offset::Pieces;
 use plane::PlanarPoint;
@@ -21,13 +21,14 @@ pub fn vanished(ps: &[f64], n: usize, tolerance: f64, r: Refusal) -> bool
     }
 }
 
-pub fn piece_by(d: f64, tolerance: f64, w: Walk, c: Checked) -> Piece
-    ensures { λ r. ⌜ r ≡ Rings.piece-by d tolerance w c ⌝ }
+// What a ring comes to, once it is checked.
+pub fn checked_piece(d: f64, tolerance: f64, ps: &[f64], n: usize, c: Checked) -> Piece
+    ensures { λ r. ⌜ r ≡ Numbers.checked-piece d tolerance (now (ps .entry)) n c ⌝ }
 {
     let refusal = c.refusal;
     if refusal.granted() {
         Piece::Whole(c.count, c.back)
-    } else if vanished(&w.points, w.count, tolerance, refusal) {
+    } else if vanished(ps, n, tolerance, refusal) {
         Piece::Shrunk
     } else {
         Piece::Failed(refusal.offset_failure(d))
@@ -35,17 +36,26 @@ pub fn piece_by(d: f64, tolerance: f64, w: Walk, c: Checked) -> Piece
 }
 
 // What a finished ring comes to, for a room. Its number is its place among the finished rings.
-pub fn offset_piece(room: usize, place: usize, d: f64, tolerance: f64, w: Walk) -> Piece
-    ensures { λ r. ⌜ r ≡ Rings.offset-piece room place d tolerance w ⌝ }
+pub fn offset_piece(
+    room: usize,
+    place: usize,
+    d: f64,
+    tolerance: f64,
+    lost: bool,
+    ps: &[f64],
+    n: usize,
+) -> Piece
+    ensures { λ r. ⌜ r ≡ Numbers.ring-piece room place d tolerance lost (now (ps .entry)) n ⌝ }
 {
-    if w.lost {
+    if lost {
         Piece::Failed(Refusal::Splits(d))
     } else {
-        piece_by(
+        checked_piece(
             d,
             tolerance,
-            w,
-            ringcheck::check_ring(room, place, &w.points, w.count),
+            ps,
+            n,
+            ringcheck::check_ring(room, place, ps, n),
         )
     }
 }
@@ -67,41 +77,7 @@ pub fn pieces_refused(r: Refusal) -> Pieces
     }
 }
 
-// One piece at most is whole, on the side from which it came.
-pub fn with_piece(outward: bool, d: f64, w: Walk, s: Pieces, p: Piece) -> Pieces
-    ensures { λ r. ⌜ r ≡ Offsets.with-piece outward d w s p ⌝ }
-{
-    match p {
-        Piece::Shrunk => s,
-        Piece::Failed(r) => pieces_refused(r),
-        Piece::Whole(n, back) => {
-            if expected(outward, measures::signed_area(&w.points, w.count)) & !s.found {
-                Pieces {
-                    refusal: Refusal::Granted,
-                    found: true,
-                    shape: polygon::store::stored_outline(&w.points, n, back),
-                }
-            } else {
-                pieces_refused(Refusal::Splits(d))
-            }
-        }
-    }
-}
-
-pub fn visit_piece(
-    outward: bool,
-    d: f64,
-    tolerance: f64,
-    place: usize,
-    w: Walk,
-    s: Pieces,
-) -> Pieces
-    ensures { λ r. ⌜ r ≡ Offsets.visit-piece outward d tolerance place w s ⌝ }
-{
-    with_piece(outward, d, w, s, offset_piece(128, place, d, tolerance, w))
-}
-
-// A ring starts at the first live slot that no ring before it has passed. The first refusal ends it.
+// A ring starts at the first live slot that no ring before it has passed. One piece at most is whole, on the side from which it came; the first refusal ends it.
 pub fn pieces(
     edges: [Edge; 128],
     origin: PlanarPoint,
@@ -111,7 +87,8 @@ pub fn pieces(
 ) -> Pieces
     ensures { λ r. ⌜ r ≡ Offsets.pieces edges origin outward d tolerance ⌝ }
 {
-    let mut made = pieces_refused(Refusal::Granted);
+    let mut found = false;
+    let mut shape = polygon::store::no_outline();
     let mut place = 0;
     let mut seen = [false; 128];
     let mut first = 0;
@@ -121,15 +98,28 @@ pub fn pieces(
         let e = edges[slot];
         if e.alive & !seen[slot] {
             let w = finishing::walk(edges, d, origin, slot, seen);
-            let changed = visit_piece(outward, d, tolerance, place, w, made);
-            let refusal = changed.refusal;
-            made = changed;
+            let piece = offset_piece(128, place, d, tolerance, w.lost, &w.points, w.count);
             seen = w.seen;
             place += 1;
-            if !refusal.granted() {
-                return made;
+            match piece {
+                Piece::Shrunk => {}
+                Piece::Failed(r) => return pieces_refused(r),
+                Piece::Whole(n, back) => {
+                    let area = measures::signed_area(&w.points, w.count);
+                    let right = expected(outward, area) & !found;
+                    if !right {
+                        return pieces_refused(Refusal::Splits(d));
+                    }
+                    let stored = polygon::store::stored_outline(&w.points, n, back);
+                    shape = stored;
+                    found = true;
+                }
             }
         }
     }
-    made
+    Pieces {
+        refusal: Refusal::Granted,
+        found: found,
+        shape: shape,
+    }
 }

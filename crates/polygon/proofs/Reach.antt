@@ -1,9 +1,9 @@
 -- The tests of single numbers: of the first that is not finite a walk is left, and one past the end is not in range. Assumes nothing.
-use Prim.Native.Nat.{ℕ, _+_, _*_, _<_, _≤_}
+use Prim.Native.Nat.{ℕ, _+_, _*_, _<_}
 use native.Mathlib.Nat.{le-refl, mul-pos}
 use native.Mathlib.Omega.{arith}
-use mathlib.Core.Path.{_≡_, refl, sym, ap, _∙_}
-use mathlib.Core.Bool.{Bool, true, false, cond, not, _&&_, _||_, true≢false, false≢true}
+use mathlib.Core.Path.{_≡_, refl, sym, _∙_}
+use mathlib.Core.Bool.{Bool, true, false, not, _&&_, _||_}
 use mathlib.Core.List.{List}
 use borrow.Author.Tests.{not-true, not-false, eqb-true, eqb-false, eq-eqb, ne-eqb, lt-ltb}
 use lib.Dec.{ltb, eqb}
@@ -12,7 +12,6 @@ use lib.ListN.{length, getD}
 use lib.Ieee.{Float, nan, inf, fin, lt, le, eq, neg, ofBits, up, down}
 use lib.Ieee.Fits.{up-pos, down-pos}
 use Rattle.math.specs.Number.{abs, finite}
-use Rattle.error.specs.declared.Refusal.{Refusal}
 use Rattle.error.specs.declared.Refusal.the-variants.{Granted, NotFinite}
 use Rattle.error.specs.Refusals.{values, number, granted}
 use Rattle.ring.proofs.Vertices.{past-end}

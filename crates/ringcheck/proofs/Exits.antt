@@ -1,12 +1,12 @@
 -- The walks of the ring check, left at the first refusal. Assumes nothing.
-use Prim.Native.Nat.{ℕ, _+_, _*_, _<_}
+use Prim.Native.Nat.{ℕ, _+_, _<_}
 use native.Mathlib.Omega.{arith}
 use mathlib.Core.Path.{_≡_, refl, sym, ap, _∙_}
 use mathlib.Core.Bool.{Bool, true, false, cond, not, _&&_, _||_, true≢false, false≢true}
 use mathlib.Core.List.{List}
 use borrow.Author.Tests.{not-true, not-false}
 use lib.Dec.{ltb}
-use lib.Ieee.{Float, nan, inf, fin, lt, neg, ofBits, up, down}
+use lib.Ieee.{Float, nan, inf, fin, lt, neg, ofBits}
 use Rattle.math.specs.Number.{abs}
 use Rattle.plane.specs.declared.PlanarPoint.{PlanarPoint}
 use Rattle.plane.specs.Plane.{same}
@@ -14,6 +14,7 @@ use Rattle.error.specs.declared.Refusal.{Refusal}
 use Rattle.error.specs.declared.Refusal.the-variants.{Granted, Range, Room}
 use Rattle.error.specs.Refusals.{values, number, granted}
 use Rattle.ring.specs.Ring.{vertex-at, edge-end}
+use Rattle.ring.proofs.Vertices.{following-on}
 use Rattle.loops.specs.Loop.{rounds}
 use Rattle.loops.proofs.Laws.{next-round, stays-to}
 use Rattle.ringcheck.specs.Checks.{max-coordinate, beyond, vertex-refusal, range-step, check-range, repeat-step, repeats}
@@ -86,3 +87,8 @@ module _ (ps : List Float) (n k : ℕ) (v w : PlanarPoint) (b : Bool) (e : v ≡
   pub repeats-here : k < n → b ≡ true → true ≡ repeats ps n
   unfolding repeats repeat-step
   repeats-here l t = sym (stays-to (repeat-step ps n) false true (k + 1) n (omega arith) (next-round (repeat-step ps n) k false ∙ rw (so-far, ← e, ← f, ← g, t) refl) (λ m. refl))
+
+-- the next edge starts where edge k ends
+pub starts : (ps : List Float) (n k : ℕ) (w : PlanarPoint) → w ≡ edge-end ps n k → k + 1 < n → w ≡ vertex-at ps (k + 1)
+unfolding edge-end
+starts ps n k w e l = e ∙ ap (vertex-at ps) (sym (following-on n k (omega arith)))

@@ -75,11 +75,14 @@ pub fn check_range(room: usize, index: usize, ps: &[f64], n: usize) -> Refusal
 pub fn repeats(ps: &[f64], n: usize) -> bool
     ensures { λ r. ⌜ r ≡ Checks.repeats (now (ps .entry)) n ⌝ }
 {
+    let mut a = ring::vertex_at(ps, 0);
     let mut k = 0;
     while k < n {
-        if plane::same(ring::vertex_at(ps, k), ring::edge_end(ps, n, k)) {
+        let b = ring::edge_end(ps, n, k);
+        if plane::same(a, b) {
             return true;
         }
+        a = b;
         k += 1;
     }
     false

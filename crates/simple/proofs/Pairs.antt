@@ -14,7 +14,6 @@ use Rattle.loops.proofs.Laws.{no-round, next-round, stays-to}
 use Rattle.segment.specs.Segments.{orient, segments-meet, folds-back}
 use Rattle.ring.specs.Ring.{stored-at, following}
 use Rattle.ring.proofs.Vertices.{following-on}
-use Rattle.simple.specs.declared.Crossing.{Crossing}
 use Rattle.simple.specs.declared.Crossing.the-variants.{Simple, Edges}
 use Rattle.boxes.specs.Quick
 use Rattle.simple.specs.Simple.{crossing, crossing-by, unless-crossed, pair-step, edge-step, check-simple}

@@ -4,7 +4,7 @@ use mathlib.Core.Bool.{Bool, true, false, cond, not, _||_, false≢true}
 use mathlib.Core.List.{List}
 use mathlib.Core.Path.{_≡_, refl, sym, _∙_, ap, subst}
 use native.Mathlib.Omega.{arith}
-use borrow.Author.Tests.{lt-ltb, ltb-true}
+use borrow.Author.Tests.{lt-ltb}
 use lib.Dec.{ltb, eqb}
 use lib.ListN.{getD}
 use Rattle.loops.specs.Loop.{rounds}
@@ -14,7 +14,7 @@ use Rattle.front.specs.declared.Reach.{Reach}
 use Rattle.front.specs.Edges.{edge, blank, unused}
 use Rattle.front.specs.Splitting.{free-step, free, reach-on, reach-step, one-ring}
 use Rattle.front.proofs.EdgeLaws.{edge-in}
-use Rattle.lines.proofs.Ends.{edge-read}
+use Rattle.edges.proofs.Actions.{slot-read}
 
 -- ---- no slot before k is free
 
@@ -70,11 +70,4 @@ reach-all f a b at k so-far e = ap (λ (r : Reach). r .found) (subst (λ (m : �
 
 -- the link that the code reads at `at`: a slot j of the front, or the unused edge
 pub read-next : (f : List Edge) (at j : ℕ) (e : Edge) → j ≡ cond (ltb at 128) at 0 → e ≡ cond (ltb at 128) (getD f j blank) unused → e .next ≡ (edge f at) .next
-read-next f at j e p q = ap (λ (x : Edge). x .next) (q ∙ ap (λ (m : ℕ). cond (ltb at 128) (getD f m blank) unused) p ∙ edge-read f at)
-
-pub slot-in : (at j : ℕ) → j ≡ cond (ltb at 128) at 0 → j < 128
-slot-in at j e = subst (λ (m : ℕ). m < 128) (sym e) (go (ltb at 128) refl)
-  where
-    go : (b : Bool) → ltb at 128 ≡ b → cond b at 0 < 128
-    go true q = ltb-true at 128 q
-    go false q = omega arith
+read-next f at j e p q = ap (λ (x : Edge). x .next) (slot-read f at j e p q)

@@ -33,7 +33,7 @@ pub fn one_ring(edges: [Edge; 128], a: usize, b: usize) -> bool
     let mut k = 0usize;
     while k < 128 {
         k += 1;
-        let e = lines::edge_or(at < 128, edges[ring::choose(at < 128, at, 0)]);
+        let e = lines::edge_or(at < 128, edges[edges::within(at)]);
         at = e.next;
         if (at == a) | (at == b) {
             return at != a;
@@ -141,8 +141,8 @@ pub fn split_into(
     ensures { λ s. ⌜ s ≡ Sweeps.split-into (Begun.begun edges travelled) edges v e p t together copy ⌝ }
 {
     if copy < 128 {
-        let at = edges::edge_at(edges, v);
-        let hit = edges::edge_at(edges, e);
+        let at = lines::edge_or(v < 128, edges[edges::within(v)]);
+        let hit = lines::edge_or(e < 128, edges[edges::within(e)]);
         let f = split_linked(edges, v, e, copy, at.previous, hit, p, t);
         parted(f, t, together)
     } else {

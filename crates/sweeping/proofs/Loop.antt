@@ -1,12 +1,12 @@
--- The loop over the events: a turn, its three ends, and the state before it. Assumes nothing.
+-- The loop over the events: a turn by its plan, and the ends of the walk. Assumes nothing.
 use Prim.Native.Nat.{ℕ, _+_, _<_, _≤_}
 use mathlib.Core.Bool.{Bool, true, false, cond, not, _&&_}
 use mathlib.Core.List.{List}
-use mathlib.Core.Path.{_≡_, refl, sym, ap, _∙_, subst}
+use mathlib.Core.Path.{_≡_, refl, sym, ap, _∙_}
 use native.Mathlib.Omega.{arith}
 use lib.Ieee.{Float}
 use Rattle.error.specs.declared.Refusal.{Refusal}
-use Rattle.error.specs.declared.Refusal.the-variants.{Granted, Unfinished}
+use Rattle.error.specs.declared.Refusal.the-variants.{Granted, Splits, Unfinished}
 use Rattle.error.specs.Refusals.{granted, number, values}
 use Rattle.error.proofs.Laws.{granted-is}
 use Rattle.math.specs.Number
@@ -14,21 +14,22 @@ use Rattle.math.specs.Number.{zero-float}
 use Rattle.loops.specs.Loop.{rounds}
 use Rattle.loops.proofs.Laws.{next-round, stays-to, still, ends}
 use Rattle.front.specs.declared.Edge.{Edge}
+use Rattle.front.specs.declared.Event.{Event}
 use Rattle.front.specs.declared.Front.{Front}
 use Rattle.front.specs.declared.Loaded.{Loaded}
 use Rattle.front.specs.declared.Sweep.{Sweep}
+use Rattle.front.specs.Edges.{collapse}
+use Rattle.front.specs.NextEvent.{next-event}
 use Rattle.front.specs.Tidying.{tidy}
-use Rattle.front.specs.Sweeps.{sweep-refused, sweep-tidied, sweep-step, sweep-from, finished, offset-rings}
+use Rattle.front.specs.Sweeps.{sweep-refused, sweep-ended, swept-collapse, split, sweep-tidied, sweep-step, sweep-from, finished, offset-rings}
 use Rattle.splitting.specs.Begun.{begun}
-use Rattle.sweeping.proofs.Turns.{settled, Turned, turned}
+use Rattle.sweeping.specs.declared.Plan.{Plan}
+use Rattle.sweeping.specs.declared.Plan.the-variants.{Refuse, End, TakeCollapse, TakeSplit}
+use Rattle.sweeping.specs.Turning.{plan-of}
+use Rattle.sweeping.proofs.Turns.{done, tidied-is, Parted, splits}
 
 abbrev pub swept : List Edge → Float → ℕ → ℕ → ℕ → Bool → Refusal → Sweep
 swept f t c v j ended r = record { edges = f; travelled = t; collapses = c; divides = v; joins = j; ended = ended; refusal = r }
-
--- the sweep before its first turn, if loading refused nothing; and if it did
-pub loaded : (d : Float) (l : Loaded) → granted (l .refusal) ≡ true → offset-rings d l ≡ finished d (rounds (sweep-step d) 387 (begun (l .edges) zero-float))
-unfolding offset-rings sweep-from begun
-loaded d l h = rw (granted-is (l .refusal) h) refl
 
 -- a sweep that has stopped stays as it is
 stopped : (d : Float) (s : Sweep) (k : ℕ) → (granted (s .refusal) && not (s .ended)) ≡ false → sweep-step d k s ≡ s
@@ -39,6 +40,11 @@ stops : (d : Float) (s : Sweep) → (granted (s .refusal) && not (s .ended)) ≡
 unfolding finished
 stops d s h = rw h refl
 
+-- the sweep before its first turn, where loading refused nothing, and where it did
+pub loaded : (d : Float) (l : Loaded) → granted (l .refusal) ≡ true → offset-rings d l ≡ finished d (rounds (sweep-step d) 387 (begun (l .edges) zero-float))
+unfolding offset-rings sweep-from begun
+loaded d l h = rw (granted-is (l .refusal) h) refl
+
 pub not-loaded : (d : Float) (l : Loaded) → granted (l .refusal) ≡ false → swept (l .edges) zero-float 0 0 0 false (l .refusal) ≡ offset-rings d l
 unfolding offset-rings sweep-from
 not-loaded d l h = sym (ap (finished d) (still (sweep-step d) s (λ k. stopped d s k (rw h refl)) 387) ∙ stops d s (rw h refl))
@@ -47,35 +53,62 @@ not-loaded d l h = sym (ap (finished d) (still (sweep-step d) s (λ k. stopped d
     s = swept (l .edges) zero-float 0 0 0 false (l .refusal)
 
 module _ (d : Float) (f₀ : List Edge) (t₀ : Float) (f : List Edge) (t : Float) (c v j k : ℕ) where
-  -- the state after k turns
+  -- the state after k turns, and where the walk ends
   abbrev pub After : Type 0
   After = swept f t c v j false Granted ≡ rounds (sweep-step d) k (begun f₀ t₀)
 
-  pub unfinished : k ≤ 387 → 387 ≤ k → After → swept f t c v j false (Unfinished 387 (Number.sub d t)) ≡ finished d (rounds (sweep-step d) 387 (begun f₀ t₀))
+  abbrev pub last : Sweep
+  last = finished d (rounds (sweep-step d) 387 (begun f₀ t₀))
+
+  pub unfinished : k ≤ 387 → 387 ≤ k → After → swept f t c v j false (Unfinished 387 (Number.sub d t)) ≡ last
   unfolding finished sweep-refused granted number values
   unfinished l h so-far = ap (finished d) (ends (sweep-step d) (begun f₀ t₀) (swept f t c v j false Granted) k 387 l h so-far)
 
-  module _ (so-far : After) (front : Front) (r : Sweep) (tidied : front ≡ tidy f t) (is : r ≡ sweep-tidied d (begun (front .edges) t) front) where
-    pub of-turn : Turned (swept f t c v j false Granted) (sweep-tidied d (swept f t c v j false Granted) (tidy f t)) r
-    of-turn = rw (is, tidied) (turned d (swept f t c v j false Granted) (tidy f t))
+  ends-there : (s : Sweep) → k < 387 → rounds (sweep-step d) (k + 1) (begun f₀ t₀) ≡ s → (granted (s .refusal) && not (s .ended)) ≡ false → s ≡ last
+  ends-there s l e h = sym (ap (finished d) (stays-to (sweep-step d) (begun f₀ t₀) s (k + 1) 387 (omega arith) e (λ m. stopped d s m h)) ∙ stops d s h)
 
-    one-turn : rounds (sweep-step d) (k + 1) (begun f₀ t₀) ≡ settled (swept f t c v j false Granted) r
+  module _
+      (so-far : After) (front : Front) (event : Event) (p plan : Plan) (tidied : front ≡ tidy f t) (found : event ≡ next-event (front .edges) t)
+      (planned : p ≡ plan-of d t event) (is : plan ≡ cond (front .stalled) Refuse p) where
+    turn : rounds (sweep-step d) (k + 1) (begun f₀ t₀) ≡ done d (swept f t c v j false Granted) (front .edges) plan
     unfolding sweep-step granted number values
-    one-turn = next-round _ _ _ ∙ ap (sweep-step d k) (sym so-far) ∙ of-turn .same
+    turn =
+        next-round _ _ _ ∙ ap (sweep-step d k) (sym so-far) ∙ ap (sweep-tidied d (swept f t c v j false Granted)) (sym tidied)
+        ∙ tidied-is d (swept f t c v j false Granted) front ∙ rw (is, planned, found) refl
 
-    pub goes : (ended : Bool) → granted (r .refusal) ≡ true → r .ended ≡ ended →
-        swept (r .edges) (r .travelled) (c + r .collapses) (v + r .divides) (j + r .joins) ended Granted ≡ rounds (sweep-step d) (k + 1) (begun f₀ t₀)
-    goes ended g e = sym (one-turn ∙ rw (g, e) refl)
+    pub refuses : k < 387 → plan ≡ Refuse → swept f t c v j false (Splits d) ≡ last
+    unfolding done sweep-refused granted number values
+    refuses l q = ends-there _ l (turn ∙ rw q refl) refl
 
-    -- a sweep that has stopped is the last one
-    last : (s : Sweep) → k < 387 → rounds (sweep-step d) (k + 1) (begun f₀ t₀) ≡ s → (granted (s .refusal) && not (s .ended)) ≡ false → s ≡ finished d (rounds (sweep-step d) 387 (begun f₀ t₀))
-    last s l e h = sym (ap (finished d) (stays-to (sweep-step d) (begun f₀ t₀) s (k + 1) 387 (omega arith) e (λ m. stopped d s m h)) ∙ stops d s h)
+    pub reaches : k < 387 → plan ≡ End → swept (front .edges) t c v j true Granted ≡ last
+    unfolding done sweep-ended granted number values
+    reaches l q = ends-there _ l (turn ∙ rw q refl) refl
 
-    pub refused : k < 387 → granted (r .refusal) ≡ false → swept f t c v j false (r .refusal) ≡ finished d (rounds (sweep-step d) 387 (begun f₀ t₀))
-    unfolding sweep-refused
-    refused l g = last (swept f t c v j false (r .refusal)) l (one-turn ∙ rw g refl) (rw g refl)
+    module _ (i : ℕ) (u : Float) (r : Front) (q : plan ≡ TakeCollapse i u) (w : r ≡ collapse (front .edges) i u) where
+      collapsing : rounds (sweep-step d) (k + 1) (begun f₀ t₀) ≡ swept-collapse d (swept f t c v j false Granted) u r
+      unfolding done
+      collapsing = turn ∙ rw (q, w) refl
 
-    pub ended : k < 387 → granted (r .refusal) ≡ true → r .ended ≡ true →
-        swept (r .edges) (r .travelled) (c + r .collapses) (v + r .divides) (j + r .joins) true Granted ≡ finished d (rounds (sweep-step d) 387 (begun f₀ t₀))
-    unfolding granted number values
-    ended l g e = last _ l (sym (goes true g e)) refl
+      pub collapse-lost : k < 387 → r .stalled ≡ true → swept f t c v j false (Splits d) ≡ last
+      unfolding swept-collapse sweep-refused granted number values
+      collapse-lost l h = ends-there _ l (collapsing ∙ rw h refl) refl
+
+      pub collapses : r .stalled ≡ false → swept (r .edges) u (c + 1) v j false Granted ≡ rounds (sweep-step d) (k + 1) (begun f₀ t₀)
+      unfolding swept-collapse
+      collapses h = sym (collapsing ∙ rw h refl)
+
+    module _ (a b : ℕ) (u : Float) (r : Sweep) (q : plan ≡ TakeSplit a b u) (w : r ≡ split d (begun (front .edges) t) (front .edges) a b u) where
+      pub parts : Parted (swept f t c v j false Granted) (split d (swept f t c v j false Granted) (front .edges) a b u) r
+      parts = rw w (splits d (swept f t c v j false Granted) (front .edges) a b u)
+
+      splitting : rounds (sweep-step d) (k + 1) (begun f₀ t₀) ≡ split d (swept f t c v j false Granted) (front .edges) a b u
+      unfolding done
+      splitting = turn ∙ rw q refl
+
+      pub split-lost : k < 387 → granted (r .refusal) ≡ false → swept f t c v j false (r .refusal) ≡ last
+      unfolding sweep-refused
+      split-lost l h = ends-there (swept f t c v j false (r .refusal)) l (splitting ∙ parts .same ∙ rw h refl) (rw h refl)
+
+      pub split-on : granted (r .refusal) ≡ true →
+          swept (r .edges) (r .travelled) c (v + r .divides) (j + r .joins) false Granted ≡ rounds (sweep-step d) (k + 1) (begun f₀ t₀)
+      split-on h = sym (splitting ∙ parts .same ∙ rw h refl)

@@ -1,4 +1,4 @@
--- What a turn makes of a sweep, by what it makes of one that has counted nothing. Assumes nothing.
+-- A turn of the sweep, by its plan; and what a split adds to a sweep, by what it makes of one that has counted nothing. Assumes nothing.
 use Prim.Native.Nat.{ℕ, _+_, _≤_}
 use mathlib.Core.Bool.{Bool, true, false, cond}
 use mathlib.Core.List.{List}
@@ -19,31 +19,77 @@ use Rattle.front.specs.declared.Front.{Front}
 use Rattle.front.specs.declared.Sweep.{Sweep}
 use Rattle.front.specs.declared.Vertex.{Vertex}
 use Rattle.front.specs.declared.Vertex.the-variants.{NoVertex, Moving}
-use Rattle.front.specs.NextEvent.{next-event}
 use Rattle.front.specs.Edges.{vertex, collapse}
+use Rattle.front.specs.NextEvent.{next-event}
 use Rattle.front.specs.Splitting.{free, one-ring}
 use Rattle.front.specs.Sweeps.{sweep-refused, sweep-ended, swept-collapse, swept-divide, swept-join, swept-split, split-into, split-of, split-at, split, sweep-event, sweep-tidied}
 use Rattle.splitting.specs.Begun.{begun}
+use Rattle.sweeping.specs.declared.Plan.{Plan}
+use Rattle.sweeping.specs.declared.Plan.the-variants.{Refuse, End, TakeCollapse, TakeSplit}
+use Rattle.sweeping.specs.Turning.{plan-of}
 
--- a refused turn changes nothing, any other adds its counts
-abbrev pub settled : Sweep → Sweep → Sweep
-settled s r =
+-- ---- the plan of a tidied front, done
+
+unfoldable pub done : Float → Sweep → List Edge → Plan → Sweep
+done d s f Refuse = sweep-refused s (Splits d)
+done d s f End = sweep-ended s f
+done d s f (TakeCollapse k t) = swept-collapse d s t (collapse f k t)
+done d s f (TakeSplit v e t) = split d s f v e t
+
+module _ (d : Float) (s : Sweep) where
+  event-is : (f : List Edge) (e : Event) → sweep-event d s f e ≡ done d s f (plan-of d (s .travelled) e)
+  unfolding sweep-event plan-of done
+  event-is f Stalled = refl
+  event-is f Never = refl
+  event-is f (Collapse k step) = go (le d t)
+    where
+      t : Float
+      t = add (s .travelled) step
+
+      go : (b : Bool) → cond b (sweep-ended s f) (swept-collapse d s t (collapse f k t)) ≡ done d s f (cond b End (TakeCollapse k t))
+      go true = refl
+      go false = refl
+  event-is f (Split v e step) = go (le d t)
+    where
+      t : Float
+      t = add (s .travelled) step
+
+      go : (b : Bool) → cond b (sweep-ended s f) (split d s f v e t) ≡ done d s f (cond b End (TakeSplit v e t))
+      go true = refl
+      go false = refl
+
+  pub tidied-is :
+      (f : Front) → sweep-tidied d s f ≡ done d s (f .edges) (cond (f .stalled) Refuse (plan-of d (s .travelled) (next-event (f .edges) (s .travelled))))
+  unfolding sweep-tidied done
+  tidied-is f = go (f .stalled)
+    where
+      e : Event
+      e = next-event (f .edges) (s .travelled)
+
+      go : (b : Bool) → cond b (sweep-refused s (Splits d)) (sweep-event d s (f .edges) e) ≡ done d s (f .edges) (cond b Refuse (plan-of d (s .travelled) e))
+      go true = refl
+      go false = event-is (f .edges) e
+
+-- ---- a split
+
+-- a refused split changes nothing, any other adds its counts
+abbrev pub parted : Sweep → Sweep → Sweep
+parted s r =
     cond (granted (r .refusal))
     (record {
       edges = r .edges;
       travelled = r .travelled;
-      collapses = s .collapses + r .collapses;
+      collapses = s .collapses;
       divides = s .divides + r .divides;
       joins = s .joins + r .joins;
-      ended = r .ended;
+      ended = false;
       refusal = Granted;
     })
     (sweep-refused s (r .refusal))
 
 -- w is made of s, and r of the sweep that has counted nothing
-pub record Turned (s w r : Sweep) : Type 0 where
-  pub same : w ≡ settled s r
-  pub collapses : r .collapses ≤ 1
+pub record Parted (s w r : Sweep) : Type 0 where
+  pub same : w ≡ parted s r
   pub divides : r .divides ≤ 1
   pub joins : r .joins ≤ 1
 
@@ -51,50 +97,25 @@ module _ (d : Float) (s : Sweep) (f : List Edge) where
   abbrev z : Sweep
   z = begun f (s .travelled)
 
-  refuses : (x : Refusal) → granted x ≡ false → Turned s (sweep-refused s x) (sweep-refused z x)
+  refuses : (x : Refusal) → granted x ≡ false → Parted s (sweep-refused s x) (sweep-refused z x)
   unfolding sweep-refused begun
-  refuses x h = record { same = rw h refl; collapses = omega arith; divides = omega arith; joins = omega arith }
+  refuses x h = record { same = rw h refl; divides = omega arith; joins = omega arith }
 
-  splits : Turned s (sweep-refused s (Splits d)) (sweep-refused z (Splits d))
-  unfolding granted number values
-  splits = refuses (Splits d) refl
-
-  ends : Turned s (sweep-ended s f) (sweep-ended z f)
-  unfolding sweep-ended sweep-refused begun granted number values
-  ends = record { same = rw (add-zero, add-zero, add-zero) refl; collapses = omega arith; divides = omega arith; joins = omega arith }
-
-  either : (b : Bool) (w w' r r' : Sweep) → Turned s w r → Turned s w' r' → Turned s (cond b w w') (cond b r r')
+  either : (b : Bool) (w w' r r' : Sweep) → Parted s w r → Parted s w' r' → Parted s (cond b w w') (cond b r r')
   either true w w' r r' g h = g
   either false w w' r r' g h = h
 
-  collapses-to : (t : Float) (g : Front) → Turned s (swept-collapse d s t g) (swept-collapse d z t g)
-  unfolding swept-collapse sweep-refused begun granted number values
-  collapses-to t g =
-      either (g .stalled) _ _ _ _ splits
-      (record { same = rw (add-zero, add-zero) refl; collapses = omega arith; divides = omega arith; joins = omega arith })
-
-  parts : (t : Float) (b : Bool) (g : List Edge) → Turned s (swept-split s t b g) (swept-split z t b g)
+  counts : (t : Float) (b : Bool) (g : List Edge) → Parted s (swept-split s t b g) (swept-split z t b g)
   unfolding swept-split swept-divide swept-join sweep-refused begun granted number values
-  parts t b g =
-      either b _ _ _ _ (record { same = rw (add-zero, add-zero) refl; collapses = omega arith; divides = omega arith; joins = omega arith })
-      (record { same = rw (add-zero, add-zero) refl; collapses = omega arith; divides = omega arith; joins = omega arith })
+  counts t b g =
+      either b _ _ _ _ (record { same = rw add-zero refl; divides = omega arith; joins = omega arith })
+      (record { same = rw add-zero refl; divides = omega arith; joins = omega arith })
 
-  full : Turned s (sweep-refused s (Slots 129)) (sweep-refused z (Slots 129))
-  unfolding granted number values
-  full = refuses (Slots 129) refl
+  splits-at : (v e : ℕ) (t : Float) (x : Vertex) → Parted s (split-at d s f v e t x) (split-at d z f v e t x)
+  unfolding split-at split-of split-into granted number values
+  splits-at v e t NoVertex = refuses (Splits d) refl
+  splits-at v e t (Moving p w) = either (ltb (free f) 128) _ _ _ _ (counts t (one-ring f v e) _) (refuses (Slots 129) refl)
 
-  splits-at : (v e : ℕ) (t : Float) (x : Vertex) → Turned s (split-at d s f v e t x) (split-at d z f v e t x)
-  unfolding split-at split-of split-into
-  splits-at v e t NoVertex = splits
-  splits-at v e t (Moving p w) = either (ltb (free f) 128) _ _ _ _ (parts t (one-ring f v e) _) full
-
-  event : (e : Event) → Turned s (sweep-event d s f e) (sweep-event d z f e)
-  unfolding sweep-event split begun
-  event Stalled = splits
-  event Never = ends
-  event (Collapse k step) = let t : Float = add (s .travelled) step in either (le d t) _ _ _ _ ends (collapses-to t (collapse f k t))
-  event (Split v e step) = let t : Float = add (s .travelled) step in either (le d t) _ _ _ _ ends (splits-at v e t (vertex f v t))
-
-pub turned : (d : Float) (s : Sweep) (f : Front) → Turned s (sweep-tidied d s f) (sweep-tidied d (begun (f .edges) (s .travelled)) f)
-unfolding sweep-tidied begun
-turned d s f = either d s (f .edges) (f .stalled) _ _ _ _ (splits d s (f .edges)) (event d s (f .edges) _)
+  pub splits : (v e : ℕ) (t : Float) → Parted s (split d s f v e t) (split d (begun f (s .travelled)) f v e t)
+  unfolding split
+  splits v e t = splits-at v e t (vertex f v t)

@@ -1,15 +1,15 @@
--- An event of the sweep at offset t, as it is taken: one that falls on the distance, or beyond it, ends the walk before it. Assumes nothing.
-use Prim.Native.Nat.{ℕ}
+-- What a turn of the sweep does, by the event that it finds. Assumes nothing.
 use mathlib.Core.Bool.{cond}
-use mathlib.Core.List.{List}
 use lib.Ieee.{Float, le}
-use Rattle.front.specs.declared.Edge.{Edge}
-use Rattle.front.specs.declared.Sweep.{Sweep}
-use Rattle.front.specs.Edges.{collapse}
-use Rattle.front.specs.Sweeps.{sweep-ended, swept-collapse, split}
+use Rattle.math.specs.Number.{add}
+use Rattle.front.specs.declared.Event.{Event}
+use Rattle.front.specs.declared.Event.the-variants.{Stalled, Never, Collapse, Split}
+use Rattle.sweeping.specs.declared.Plan.{Plan}
+use Rattle.sweeping.specs.declared.Plan.the-variants.{Refuse, End, TakeCollapse, TakeSplit}
 
-unfoldable pub take-collapse : Float → Sweep → List Edge → ℕ → Float → Sweep
-take-collapse d s f k t = cond (le d t) (sweep-ended s f) (swept-collapse d s t (collapse f k t))
-
-unfoldable pub take-split : Float → Sweep → List Edge → ℕ → ℕ → Float → Sweep
-take-split d s f v e t = cond (le d t) (sweep-ended s f) (split d s f v e t)
+-- an event that falls on the distance, or beyond it, ends the walk before it
+unfoldable pub plan-of : Float → Float → Event → Plan
+plan-of d travelled Stalled = Refuse
+plan-of d travelled Never = End
+plan-of d travelled (Collapse k step) = cond (le d (add travelled step)) End (TakeCollapse k (add travelled step))
+plan-of d travelled (Split v e step) = cond (le d (add travelled step)) End (TakeSplit v e (add travelled step))

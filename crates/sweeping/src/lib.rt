@@ -1,99 +1,52 @@
 // The main loop of an offset: one event after the other, until the front has come to the distance.
 ghost use mathlib.Core.Path.{_≡_};
+ghost use mathlib.Core.Bool.{cond};
 ghost use lib.Ieee.{le};
 ghost use Rattle.front.specs.Sweeps;
-ghost use Rattle.splitting.specs.Begun;
 ghost use Rattle.sweeping.specs.Turning;
+ghost use Rattle.sweeping.specs.declared.Plan.the-variants.{Refuse, End};
 use error::Refusal;
-use front::Edge;
 use front::Event;
-use front::Front;
 use front::Loaded;
 use front::Sweep;
 
-// The front has come to the distance.
-pub fn ended(edges: [Edge; 128], travelled: f64) -> Sweep
-    ensures { λ s. ⌜ s ≡ Sweeps.sweep-ended (Begun.begun edges travelled) edges ⌝ }
-{
-    Sweep {
-        edges,
-        travelled,
-        collapses: 0,
-        divides: 0,
-        joins: 0,
-        ended: true,
-        refusal: Refusal::Granted,
-    }
+// What a turn does: it ends the walk, refused or at the distance, or takes an event at an offset.
+pub enum Plan {
+    Refuse,
+    End,
+    TakeCollapse(usize, f64),
+    TakeSplit(usize, usize, f64),
 }
 
-// The front after a collapse at offset t, if its vertex had a velocity.
-pub fn swept_collapse(d: f64, edges: [Edge; 128], travelled: f64, t: f64, f: Front) -> Sweep
-    ensures { λ s. ⌜ s ≡ Sweeps.swept-collapse d (Begun.begun edges travelled) t f ⌝ }
+// An event that falls on the distance, or beyond it, ends the walk before it.
+pub fn in_time(d: f64, t: f64, p: Plan) -> Plan
+    ensures { λ r. ⌜ r ≡ cond (le d t) End p ⌝ }
 {
-    if f.stalled {
-        splitting::refused(edges, travelled, Refusal::Splits(d))
-    } else {
-        let changed = f.edges;
-        Sweep {
-            edges: changed,
-            travelled: t,
-            collapses: 1,
-            divides: 0,
-            joins: 0,
-            ended: false,
-            refusal: Refusal::Granted,
+    if d <= t { Plan::End } else { p }
+}
+
+pub fn plan_of(d: f64, travelled: f64, e: Event) -> Plan
+    ensures { λ r. ⌜ r ≡ Turning.plan-of d travelled e ⌝ }
+{
+    match e {
+        Event::Stalled => Plan::Refuse,
+        Event::Never => Plan::End,
+        Event::Collapse(k, step) => {
+            let t = travelled + step;
+            in_time(d, t, Plan::TakeCollapse(k, t))
+        }
+        Event::Split(v, w, step) => {
+            let t = travelled + step;
+            in_time(d, t, Plan::TakeSplit(v, w, t))
         }
     }
 }
 
-// An event that falls on the distance, or beyond it, ends the walk before it.
-pub fn reached(d: f64, t: f64) -> bool
-    ensures { λ r. ⌜ r ≡ le d t ⌝ }
+// A front whose tidying met a vertex without a velocity is refused.
+pub fn unless_stalled(stalled: bool, p: Plan) -> Plan
+    ensures { λ r. ⌜ r ≡ cond stalled Refuse p ⌝ }
 {
-    d <= t
-}
-
-pub fn take_collapse(d: f64, edges: [Edge; 128], travelled: f64, k: usize, t: f64) -> Sweep
-    ensures { λ s. ⌜ s ≡ Turning.take-collapse d (Begun.begun edges travelled) edges k t ⌝ }
-{
-    if reached(d, t) {
-        ended(edges, travelled)
-    } else {
-        swept_collapse(d, edges, travelled, t, edges::collapse(edges, k, t))
-    }
-}
-
-pub fn take_split(d: f64, edges: [Edge; 128], travelled: f64, v: usize, e: usize, t: f64) -> Sweep
-    ensures { λ s. ⌜ s ≡ Turning.take-split d (Begun.begun edges travelled) edges v e t ⌝ }
-{
-    if reached(d, t) {
-        ended(edges, travelled)
-    } else {
-        splitting::split(d, edges, travelled, v, e, t)
-    }
-}
-
-pub fn sweep_event(d: f64, edges: [Edge; 128], travelled: f64, event: Event) -> Sweep
-    ensures { λ s. ⌜ s ≡ Sweeps.sweep-event d (Begun.begun edges travelled) edges event ⌝ }
-{
-    match event {
-        Event::Stalled => splitting::refused(edges, travelled, Refusal::Splits(d)),
-        Event::Never => ended(edges, travelled),
-        Event::Collapse(k, step) => take_collapse(d, edges, travelled, k, travelled + step),
-        Event::Split(v, e, step) => take_split(d, edges, travelled, v, e, travelled + step),
-    }
-}
-
-// The turn of a tidied front, with nothing counted before it.
-pub fn sweep_tidied(d: f64, travelled: f64, f: Front) -> Sweep
-    ensures { λ s. ⌜ s ≡ Sweeps.sweep-tidied d (Begun.begun (f .edges) travelled) f ⌝ }
-{
-    let edges = f.edges;
-    if f.stalled {
-        splitting::refused(edges, travelled, Refusal::Splits(d))
-    } else {
-        sweep_event(d, edges, travelled, events::next_event(edges, travelled))
-    }
+    if stalled { Plan::Refuse } else { p }
 }
 
 // The front of the loaded rings at distance d, and the events on the way.
@@ -120,35 +73,71 @@ pub fn offset_rings(d: f64, l: Loaded) -> Sweep
     let mut k = 0usize;
     while k < 387 {
         k += 1;
-        let turn = sweep_tidied(d, travelled, tidying::tidy(edges, travelled));
-        let refusal = turn.refusal;
-        if !refusal.granted() {
-            return Sweep {
-                edges,
-                travelled,
-                collapses,
-                divides,
-                joins,
-                ended: false,
-                refusal,
-            };
-        }
-        let changed = turn.edges;
-        edges = changed;
-        travelled = turn.travelled;
-        collapses += turn.collapses;
-        divides += turn.divides;
-        joins += turn.joins;
-        if turn.ended {
-            return Sweep {
-                edges,
-                travelled,
-                collapses,
-                divides,
-                joins,
-                ended: true,
-                refusal: Refusal::Granted,
-            };
+        let front = tidying::tidy(edges, travelled);
+        let tidied = front.edges;
+        let event = events::next_event(tidied, travelled);
+        let plan = unless_stalled(front.stalled, plan_of(d, travelled, event));
+        match plan {
+            Plan::Refuse => {
+                return Sweep {
+                    edges,
+                    travelled,
+                    collapses,
+                    divides,
+                    joins,
+                    ended: false,
+                    refusal: Refusal::Splits(d),
+                };
+            }
+            Plan::End => {
+                return Sweep {
+                    edges: tidied,
+                    travelled,
+                    collapses,
+                    divides,
+                    joins,
+                    ended: true,
+                    refusal: Refusal::Granted,
+                };
+            }
+            Plan::TakeCollapse(slot, t) => {
+                let done = edges::collapse(tidied, slot, t);
+                if done.stalled {
+                    return Sweep {
+                        edges,
+                        travelled,
+                        collapses,
+                        divides,
+                        joins,
+                        ended: false,
+                        refusal: Refusal::Splits(d),
+                    };
+                }
+                let changed = done.edges;
+                edges = changed;
+                travelled = t;
+                collapses += 1;
+            }
+            Plan::TakeSplit(v, w, t) => {
+                let done = splitting::split(d, tidied, travelled, v, w, t);
+                let refusal = done.refusal;
+                if !refusal.granted() {
+                    return Sweep {
+                        edges,
+                        travelled,
+                        collapses,
+                        divides,
+                        joins,
+                        ended: false,
+                        refusal,
+                    };
+                }
+                let changed = done.edges;
+                edges = changed;
+                travelled = done.travelled;
+                divides += done.divides;
+                joins += done.joins;
+            }
         }
     }
     Sweep {

@@ -1,4 +1,4 @@
-pub mod Slots
+pub mod Turns
 pub mod Small
 pub mod Found
 pub mod Dropped

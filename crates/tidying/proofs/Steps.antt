@@ -73,6 +73,6 @@ tidy-none f t found h i =
     ∙ still (tidy-step t) (unchanged f) (λ m. refl) 128)
 
 pub tidy-more :
-    (f : List Edge) (t : Float) (found : Tidy) (s r : Front) → found ≡ find-tidy f t → s ≡ tidy-by f t found → r ≡ rounds (tidy-step t) 128 s → r ≡ tidy f t
+    (f : List Edge) (t : Float) (found : Tidy) (r : Front) → found ≡ find-tidy f t → r ≡ rounds (tidy-step t) 128 (tidy-by f t found) → r ≡ tidy f t
 unfolding tidy-once
-tidy-more f t found s r h i j = j ∙ ap (rounds (tidy-step t) 128) (i ∙ ap (tidy-by f t) h) ∙ sym (first-step f t)
+tidy-more f t found r h i = i ∙ ap (λ (x : Tidy). rounds (tidy-step t) 128 (tidy-by f t x)) h ∙ sym (first-step f t)

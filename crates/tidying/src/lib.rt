@@ -1,7 +1,5 @@
 // Tidying: rings too small, straight vertices, spikes and edges of no length are taken out of the front, one after the other.
 ghost use mathlib.Core.Path.{_≡_};
-ghost use mathlib.Core.Bool.{cond};
-ghost use Rattle.front.specs.Edges;
 ghost use Rattle.front.specs.Tidying;
 ghost use Rattle.loops.specs.Loop.{rounds};
 ghost use Rattle.tidying.specs.Findings;
@@ -108,13 +106,10 @@ pub fn find_tidy(edges: [Edge; 128], t: f64) -> Tidy
         if e.alive {
             let previous = e.previous;
             let next = e.next;
-            let before = lines::edge_or(
-                previous < 128,
-                edges[ring::choose(previous < 128, previous, 0)],
-            );
-            let after = lines::edge_or(next < 128, edges[ring::choose(next < 128, next, 0)]);
+            let before = lines::edge_or(previous < 128, edges[edges::within(previous)]);
+            let after = lines::edge_or(next < 128, edges[edges::within(next)]);
             let back = after.previous;
-            let beside = lines::edge_or(back < 128, edges[ring::choose(back < 128, back, 0)]);
+            let beside = lines::edge_or(back < 128, edges[edges::within(back)]);
             let found = tidy_between(slot, t, before, e, beside, after);
             if !settled(found) {
                 return found;
@@ -122,26 +117,6 @@ pub fn find_tidy(edges: [Edge; 128], t: f64) -> Tidy
         }
     }
     Tidy::Settled
-}
-
-// The edge, not alive any more where the slot that it was read from is one.
-pub fn dead_if(inside: bool, e: Edge) -> Edge
-    ensures { λ r. ⌜ r ≡ cond inside (Edges.dead e) e ⌝ }
-{
-    if inside {
-        let line = e.line;
-        let start = e.start;
-        Edge {
-            line,
-            previous: e.previous,
-            next: e.next,
-            alive: false,
-            start,
-            since: e.since,
-        }
-    } else {
-        e
-    }
 }
 
 // A ring too small is dropped whole, from its slot on: the walk ends where it comes round or meets a dead edge.
@@ -153,13 +128,12 @@ pub fn drop_ring(edges: [Edge; 128], slot: usize) -> [Edge; 128]
     let mut k = 0usize;
     while k < 128 {
         k += 1;
-        let inside = at < 128;
-        let i = ring::choose(inside, at, 0);
-        let read = f[i];
-        let e = lines::edge_or(inside, read);
+        let i = edges::within(at);
+        let own = f[i];
+        let e = lines::edge_or(at < 128, own);
         let next = e.next;
-        f[i] = dead_if(inside, read);
-        let n = lines::edge_or(next < 128, f[ring::choose(next < 128, next, 0)]);
+        f[i] = edges::dead_if(at < 128, own);
+        let n = lines::edge_or(next < 128, f[edges::within(next)]);
         if (next == slot) | !n.alive {
             return f;
         }
@@ -294,7 +268,14 @@ pub fn tidy_on(s: Front, t: f64) -> Front
     at
 }
 
-// 129 steps at most. Mostly the first finds nothing.
+// What was found is taken out, and then what is found after it: 129 steps in all.
+pub fn tidy_from(edges: [Edge; 128], t: f64, found: Tidy) -> Front
+    ensures { λ r. ⌜ r ≡ rounds (Tidying.tidy-step t) 128 (Tidying.tidy-by edges t found) ⌝ }
+{
+    tidy_on(tidy_by(edges, t, found), t)
+}
+
+// 129 steps at most. Mostly the first finds nothing, and a caller that sees that by `find_tidy` and `settled` need not pass the array here.
 pub fn tidy(edges: [Edge; 128], t: f64) -> Front
     ensures { λ r. ⌜ r ≡ Tidying.tidy edges t ⌝ }
 {
@@ -306,6 +287,6 @@ pub fn tidy(edges: [Edge; 128], t: f64) -> Front
             changed: false,
         }
     } else {
-        tidy_on(tidy_by(edges, t, found), t)
+        tidy_from(edges, t, found)
     }
 }

@@ -4,15 +4,15 @@ use borrow.Author.Needs.{needs}
 use Rattle.boxes.proofs.low.Statement.{statement}
 use Rattle.boxes.proofs.low.Tie as tie
 
-min-requires : tie.Need-min-requires
-min-requires c κs = search needs
+choose-requires : tie.Need-choose-requires
+choose-requires c κs = search needs
 
-min-requires-2 : tie.Need-min-requires-2
-min-requires-2 c κs = search needs
+choose-requires-2 : tie.Need-choose-requires-2
+choose-requires-2 c κs = search needs
 
 returns : tie.Need-returns
-unfolding Quick.low
+unfolding Quick.low Quick.lesser
 returns c = cc
 
 pub low-spec : {M : Type 1} → statement M
-low-spec = tie.close (tie.spec min-requires min-requires-2 returns)
+low-spec = tie.close (tie.spec choose-requires choose-requires-2 returns)

@@ -1,26 +1,41 @@
 -- `measures::signed_area` meets its contract. Assumes nothing.
-use borrow.Author.Needs.{needs}
-use Prim.Native.Nat.{ℕ, _-_, _≤_}
-use mathlib.Core.Path.{_≡_, sym, ap, _∙_}
+use Prim.Native.Nat.{_-_, _≤_, _<_}
+use mathlib.Core.Path.{_≡_, sym, ap}
+use Rattle.math.specs.Number.{zero-float, div, two}
+use Rattle.plane.specs.Plane.{sub}
+use Rattle.ring.specs.Ring.{vertex-at}
 use Rattle.loops.specs.Loop.{rounds}
-use Rattle.loops.proofs.Laws.{no-round, goes-on, ends}
-use Rattle.math.specs.Number.{zero-float, two, div}
-use lib.Ieee.{Float}
+use Rattle.loops.proofs.Laws.{no-round, ends}
 use Rattle.measures.specs.Measures
+use Rattle.measures.proofs.Walks.{starts, begins, area-goes-on}
+use lib.Ieee.{Float}
+use borrow.Author.Needs.{needs}
 use Rattle.measures.proofs.signed_area.Statement.{statement}
 use Rattle.measures.proofs.signed_area.Tie as tie
 
 abbrev Inv-loop : tie.InvT-loop
-Inv-loop ps n s₀ k₀ s k = (k ≤ n) × (s ≡ rounds (Measures.area-step ps n) k zero-float)
+Inv-loop ps n first a₀ s₀ k₀ a s k = (k ≤ n) × (k < n → a ≡ sub (vertex-at ps k) first) × (s ≡ rounds (Measures.area-step ps n) k zero-float)
 
 abbrev μ-loop : tie.MeasureT-loop
-μ-loop ps n s₀ k₀ s k = n - k
+μ-loop ps n first a₀ s₀ k₀ a s k = n - k
+
+vertex-at-requires : tie.Need-vertex-at-requires Inv-loop μ-loop
+vertex-at-requires c κs = search needs
+
+sub-requires : tie.Need-sub-requires Inv-loop μ-loop
+sub-requires c κs = search needs
 
 loop-holds : tie.Need-loop-holds Inv-loop μ-loop
-loop-holds c = (search needs, sym (no-round _ _))
+loop-holds c = (search needs, λ l. begins _ _ _ (c .before .vertex-at .ensures) (c .sub .ensures), sym (no-round _ _))
 
-area-step-requires : tie.Need-area-step-requires Inv-loop μ-loop
-area-step-requires c κs = search needs
+edge-end-requires : tie.Need-edge-end-requires Inv-loop μ-loop
+edge-end-requires c κs = search needs
+
+sub-requires-2 : tie.Need-sub-requires-2 Inv-loop μ-loop
+sub-requires-2 c κs = search needs
+
+cross-requires : tie.Need-cross-requires Inv-loop μ-loop
+cross-requires c κs = search needs
 
 add-k : tie.Need-add-k Inv-loop μ-loop
 add-k c = search needs
@@ -29,13 +44,29 @@ loop-less : tie.Need-loop-less Inv-loop μ-loop
 loop-less c = search needs
 
 loop-again : tie.Need-loop-again Inv-loop μ-loop
-loop-again c = (search needs, goes-on _ _ _ _ _ (c .before .before .loop .inv .1) (c .area-step .ensures))
+loop-again c = (
+  search needs,
+  λ l. starts _ _ _ _ _ _ (c .before .before .edge-end .ensures) (c .before .sub2 .ensures) l,
+  area-goes-on _ _ _ _ _ _ _ _ _ (c .before .before .before .before .before .before .vertex-at .ensures) (c .before .before .before .before .loop .inv .1 (search needs)) (c .before .before .edge-end .ensures) (c .before .sub2 .ensures) (c .before .before .before .before .loop .inv .2) (c .cross .ensures),
+)
 
 returns : tie.Need-returns Inv-loop μ-loop
 unfolding Measures.signed-area
-returns c = ap (λ (x : Float). div x two) (ends _ _ _ _ _ (c .before .loop .inv .0) (c .loop-test .left) (c .before .loop .inv .1))
+returns c = ap (λ (x : Float). div x two) (ends _ _ _ _ _ (c .before .loop .inv .0) (c .loop-test .left) (c .before .loop .inv .2))
 
 pub signed-area-spec : {M : Type 1} → statement M
 signed-area-spec =
     tie.close
-    (tie.spec Inv-loop μ-loop loop-holds area-step-requires add-k loop-less loop-again returns)
+    (tie.spec
+    Inv-loop
+    μ-loop
+    vertex-at-requires
+    sub-requires
+    loop-holds
+    edge-end-requires
+    sub-requires-2
+    cross-requires
+    add-k
+    loop-less
+    loop-again
+    returns)

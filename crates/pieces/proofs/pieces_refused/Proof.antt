@@ -1,5 +1,5 @@
 -- `pieces::pieces_refused` meets its contract. Assumes nothing.
-use Rattle.pieces.proofs.Comes.{refused-as}
+use Rattle.pieces.proofs.Visited.{refused-as}
 use borrow.Author.Needs.{needs}
 use Rattle.pieces.proofs.pieces_refused.Statement.{statement}
 use Rattle.pieces.proofs.pieces_refused.Tie as tie

@@ -1,6 +1,5 @@
 -- `ringcheck::beyond` meets its contract. Assumes nothing.
 use Rattle.ringcheck.proofs.Exits.{beyond-is}
-use borrow.Author.Needs.{needs}
 use Rattle.ringcheck.proofs.beyond.Statement.{statement}
 use Rattle.ringcheck.proofs.beyond.Tie as tie
 

@@ -1,5 +1,5 @@
 -- `simple::check_simple` meets its contract. Assumes nothing.
-use Prim.Native.Nat.{ℕ, _≤_, _<_, _+_, _-_}
+use Prim.Native.Nat.{_≤_, _<_, _+_, _-_}
 use mathlib.Core.Path.{_≡_, refl, ap, _∙_}
 use Rattle.loops.specs.Loop.{rounds}
 use Rattle.loops.proofs.Laws.{no-round}

@@ -7,7 +7,7 @@ use native.Mathlib.Omega.{arith}
 use Rattle.loops.specs.Loop.{rounds}
 use Rattle.loops.proofs.Laws.{no-round}
 use Rattle.front.specs.Splitting.{reach-step}
-use Rattle.splitting.proofs.Walks.{reach-at, reach-goes, reach-found, reach-all, read-next, slot-in}
+use Rattle.splitting.proofs.Walks.{reach-at, reach-goes, reach-found, reach-all, read-next}
 use Rattle.splitting.proofs.one_ring.Statement.{statement}
 use Rattle.splitting.proofs.one_ring.Tie as tie
 
@@ -23,26 +23,26 @@ loop-holds c = (search needs, no-round _ _)
 add-k : tie.Need-add-k Inv-loop μ-loop
 add-k c = search needs
 
-choose-requires : tie.Need-choose-requires Inv-loop μ-loop
-choose-requires c κs = search needs
+within-requires : tie.Need-within-requires Inv-loop μ-loop
+within-requires c κs = search needs
 
 mul-edge-or : tie.Need-mul-edge-or Inv-loop μ-loop
-mul-edge-or c = search (needs, slot-in (c .before .before .loop .at) _ (c .choose .ensures))
+mul-edge-or c = search needs
 
 array-copy-out-edge-or : tie.Need-array-copy-out-edge-or Inv-loop μ-loop
-array-copy-out-edge-or c = search (needs, slot-in (c .before .before .loop .at) _ (c .choose .ensures))
+array-copy-out-edge-or c = search needs
 
 edge-or-requires : tie.Need-edge-or-requires Inv-loop μ-loop
 edge-or-requires c κs = search needs
 
 returns : tie.Need-returns Inv-loop μ-loop
-returns c = sym (reach-found _ _ _ _ _ _ (c .before .before .before .before .before .loop .inv .1) (read-next _ _ _ _ (c .before .before .before .choose .ensures) (c .before .edge-or .ensures)) (search needs) (c .if1 .taken))
+returns c = sym (reach-found _ _ _ _ _ _ (c .before .before .before .before .before .loop .inv .1) (read-next _ _ _ _ (c .before .before .before .within .ensures .0) (c .before .edge-or .ensures)) (search needs) (c .if1 .taken))
 
 loop-less : tie.Need-loop-less Inv-loop μ-loop
 loop-less c = search needs
 
 loop-again : tie.Need-loop-again Inv-loop μ-loop
-loop-again c = (search needs, reach-goes _ _ _ _ _ _ (c .before .before .before .before .before .loop .inv .1) (read-next _ _ _ _ (c .before .before .before .choose .ensures) (c .before .edge-or .ensures)) (c .if1 .left))
+loop-again c = (search needs, reach-goes _ _ _ _ _ _ (c .before .before .before .before .before .loop .inv .1) (read-next _ _ _ _ (c .before .before .before .within .ensures .0) (c .before .edge-or .ensures)) (c .if1 .left))
 
 returns-2 : tie.Need-returns-2 Inv-loop μ-loop
 returns-2 c = sym (reach-all _ _ _ _ _ (c .before .loop .inv .1) (omega arith))
@@ -55,7 +55,7 @@ one-ring-spec =
     μ-loop
     loop-holds
     add-k
-    choose-requires
+    within-requires
     mul-edge-or
     array-copy-out-edge-or
     edge-or-requires

@@ -1,14 +1,33 @@
 -- `splitting::split_into` meets its contract. Assumes nothing.
+use Rattle.edges.proofs.Actions.{slot-read}
 use Rattle.splitting.proofs.Parts.{split-fits, split-full}
 use borrow.Author.Needs.{needs}
 use Rattle.splitting.proofs.split_into.Statement.{statement}
 use Rattle.splitting.proofs.split_into.Tie as tie
 
-edge-at-requires : tie.Need-edge-at-requires
-edge-at-requires c κs = search needs
+within-requires : tie.Need-within-requires
+within-requires c κs = search needs
 
-edge-at-requires-2 : tie.Need-edge-at-requires-2
-edge-at-requires-2 c κs = search needs
+mul-edge-or : tie.Need-mul-edge-or
+mul-edge-or c = search needs
+
+array-copy-out-edge-or : tie.Need-array-copy-out-edge-or
+array-copy-out-edge-or c = search needs
+
+edge-or-requires : tie.Need-edge-or-requires
+edge-or-requires c κs = search needs
+
+within-requires-2 : tie.Need-within-requires-2
+within-requires-2 c κs = search needs
+
+mul-edge-or-2 : tie.Need-mul-edge-or-2
+mul-edge-or-2 c = search needs
+
+array-copy-out-edge-or-2 : tie.Need-array-copy-out-edge-or-2
+array-copy-out-edge-or-2 c = search needs
+
+edge-or-requires-2 : tie.Need-edge-or-requires-2
+edge-or-requires-2 c κs = search needs
 
 split-linked-requires : tie.Need-split-linked-requires
 split-linked-requires c κs = search needs
@@ -20,7 +39,7 @@ refused-requires : tie.Need-refused-requires
 refused-requires c κs = search needs
 
 returns : tie.Need-returns
-returns c = split-fits _ _ _ _ _ _ _ _ _ _ _ _ (search needs) (c .before .before .before .edge-at .ensures) (c .before .before .edge-at2 .ensures) (c .before .split-linked .ensures) (c .parted .ensures)
+returns c = split-fits _ _ _ _ _ _ _ _ _ _ _ _ (search needs) (slot-read _ _ _ _ (c .before .before .before .before .before .before .before .within .ensures .0) (c .before .before .before .before .before .edge-or .ensures)) (slot-read _ _ _ _ (c .before .before .before .before .within2 .ensures .0) (c .before .before .edge-or2 .ensures)) (c .before .split-linked .ensures) (c .parted .ensures)
 
 returns-2 : tie.Need-returns-2
 returns-2 c = split-full _ _ _ _ _ _ _ _ _ (search needs) (c .refused .ensures)
@@ -29,8 +48,14 @@ pub split-into-spec : {M : Type 1} → statement M
 split-into-spec =
     tie.close
     (tie.spec
-    edge-at-requires
-    edge-at-requires-2
+    within-requires
+    mul-edge-or
+    array-copy-out-edge-or
+    edge-or-requires
+    within-requires-2
+    mul-edge-or-2
+    array-copy-out-edge-or-2
+    edge-or-requires-2
     split-linked-requires
     parted-requires
     refused-requires

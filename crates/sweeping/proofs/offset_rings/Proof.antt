@@ -9,8 +9,8 @@ use lib.Ieee.{Float}
 use Rattle.loops.proofs.Laws.{no-round}
 use Rattle.front.specs.declared.Edge.{Edge}
 use Rattle.splitting.specs.Begun.{begun}
-use Rattle.sweeping.proofs.Turns.{Turned}
-use Rattle.sweeping.proofs.Loop.{loaded, not-loaded, After, of-turn, goes, refused, ended, unfinished}
+use Rattle.sweeping.proofs.Turns.{Parted}
+use Rattle.sweeping.proofs.Loop.{loaded, not-loaded, After, unfinished, refuses, reaches, collapse-lost, collapses, parts, split-lost, split-on}
 use Rattle.sweeping.proofs.offset_rings.Statement.{statement}
 use Rattle.sweeping.proofs.offset_rings.Tie as tie
 
@@ -43,43 +43,86 @@ add-k c = search needs
 tidy-requires : tie.Need-tidy-requires Inv-loop μ-loop
 tidy-requires c κs = search needs
 
-sweep-tidied-requires : tie.Need-sweep-tidied-requires Inv-loop μ-loop
-sweep-tidied-requires c κs = search needs
+next-event-requires : tie.Need-next-event-requires Inv-loop μ-loop
+next-event-requires c κs = search needs
 
-granted-requires-2 : tie.Need-granted-requires-2 Inv-loop μ-loop
-granted-requires-2 c κs = search needs
+plan-of-requires : tie.Need-plan-of-requires Inv-loop μ-loop
+plan-of-requires c κs = search needs
+
+unless-stalled-requires : tie.Need-unless-stalled-requires Inv-loop μ-loop
+unless-stalled-requires c κs = search needs
+
+enum-told : tie.Need-enum-told Inv-loop μ-loop
+enum-told c = search needs
 
 returns-2 : tie.Need-returns-2 Inv-loop μ-loop
-returns-2 c = refused _ _ _ _ _ _ _ _ _ (c .before .before .before .before .before .loop .inv .after) _ _ (c .before .before .before .tidy .ensures) (c .before .before .sweep-tidied .ensures) (c .before .before .before .before .loop-test .taken) (sym (c .before .granted2 .ensures) ∙ not-true _ (c .if2 .taken)) ∙ sym (loaded _ _ (sym (c .before .before .before .before .before .before .before .granted .ensures) ∙ not-false _ (c .before .before .before .before .before .before .if1 .left)))
+returns-2 c = refuses _ _ _ _ _ _ _ _ _ (c .before .before .before .before .before .before .before .before .loop .inv .after) _ _ _ _ (c .before .before .before .before .before .before .tidy .ensures) (c .before .before .before .before .next-event .ensures) (c .before .before .before .plan-of .ensures) (c .before .before .unless-stalled .ensures) (c .before .before .before .before .before .before .before .loop-test .taken) (c .enum-told .given .1) ∙ sym (loaded _ _ (sym (c .before .before .before .before .before .before .before .before .before .before .granted .ensures) ∙ not-false _ (c .before .before .before .before .before .before .before .before .before .if1 .left)))
 
-add-collapses : tie.Need-add-collapses Inv-loop μ-loop
-add-collapses c = search (needs, of-turn _ _ _ _ _ _ _ _ _ (c .before .before .before .before .before .before .before .loop .inv .after) _ _ (c .before .before .before .before .before .tidy .ensures) (c .before .before .before .before .sweep-tidied .ensures))
-
-add-divides : tie.Need-add-divides Inv-loop μ-loop
-add-divides c = search (needs, of-turn _ _ _ _ _ _ _ _ _ (c .before .before .before .before .before .before .before .before .loop .inv .after) _ _ (c .before .before .before .before .before .before .tidy .ensures) (c .before .before .before .before .before .sweep-tidied .ensures))
-
-add-joins : tie.Need-add-joins Inv-loop μ-loop
-add-joins c = search (needs, of-turn _ _ _ _ _ _ _ _ _ (c .before .before .before .before .before .before .before .before .before .loop .inv .after) _ _ (c .before .before .before .before .before .before .before .tidy .ensures) (c .before .before .before .before .before .before .sweep-tidied .ensures))
+enum-told-2 : tie.Need-enum-told-2 Inv-loop μ-loop
+enum-told-2 c = search needs
 
 returns-3 : tie.Need-returns-3 Inv-loop μ-loop
-returns-3 c = ended _ _ _ _ _ _ _ _ _ (c .before .before .before .before .before .before .before .before .before .before .loop .inv .after) _ _ (c .before .before .before .before .before .before .before .before .tidy .ensures) (c .before .before .before .before .before .before .before .sweep-tidied .ensures) (c .before .before .before .before .before .before .before .before .before .loop-test .taken) (sym (c .before .before .before .before .before .before .granted2 .ensures) ∙ not-false _ (c .before .before .before .before .before .if2 .left)) (c .if3 .taken) ∙ sym (loaded _ _ (sym (c .before .before .before .before .before .before .before .before .before .before .before .before .granted .ensures) ∙ not-false _ (c .before .before .before .before .before .before .before .before .before .before .before .if1 .left)))
+returns-3 c = reaches _ _ _ _ _ _ _ _ _ (c .before .before .before .before .before .before .before .before .loop .inv .after) _ _ _ _ (c .before .before .before .before .before .before .tidy .ensures) (c .before .before .before .before .next-event .ensures) (c .before .before .before .plan-of .ensures) (c .before .before .unless-stalled .ensures) (c .before .before .before .before .before .before .before .loop-test .taken) (c .enum-told2 .given .1) ∙ sym (loaded _ _ (sym (c .before .before .before .before .before .before .before .before .before .before .granted .ensures) ∙ not-false _ (c .before .before .before .before .before .before .before .before .before .if1 .left)))
+
+enum-known-plan : tie.Need-enum-known-plan Inv-loop μ-loop
+enum-known-plan c = search needs
+
+collapse-requires : tie.Need-collapse-requires Inv-loop μ-loop
+collapse-requires c κs = search needs
+
+returns-4 : tie.Need-returns-4 Inv-loop μ-loop
+returns-4 c = collapse-lost _ _ _ _ _ _ _ _ _ (c .before .before .before .before .before .before .before .before .before .before .before .loop .inv .after) _ _ _ _ (c .before .before .before .before .before .before .before .before .before .tidy .ensures) (c .before .before .before .before .before .before .before .next-event .ensures) (c .before .before .before .before .before .before .plan-of .ensures) (c .before .before .before .before .before .unless-stalled .ensures) _ _ _ (c .before .before .before .plan .given .1) (c .before .collapse .ensures) (c .before .before .before .before .before .before .before .before .before .before .loop-test .taken) (c .if2 .taken) ∙ sym (loaded _ _ (sym (c .before .before .before .before .before .before .before .before .before .before .before .before .before .granted .ensures) ∙ not-false _ (c .before .before .before .before .before .before .before .before .before .before .before .before .if1 .left)))
+
+add-collapses : tie.Need-add-collapses Inv-loop μ-loop
+add-collapses c = search needs
 
 loop-less : tie.Need-loop-less Inv-loop μ-loop
 loop-less c = search needs
 
 loop-again : tie.Need-loop-again Inv-loop μ-loop
 loop-again c =
-    let turn = of-turn _ _ _ _ _ _ _ _ _ (c .before .before .before .before .before .before .before .before .before .before .loop .inv .after) _ _ (c .before .before .before .before .before .before .before .before .tidy .ensures) (c .before .before .before .before .before .before .before .sweep-tidied .ensures) in
     record {
       within = omega arith;
-      collapses = omega (arith, turn .collapses);
-      divides = omega (arith, turn .divides);
-      joins = omega (arith, turn .joins);
-      after = goes _ _ _ _ _ _ _ _ _ (c .before .before .before .before .before .before .before .before .before .before .loop .inv .after) _ _ (c .before .before .before .before .before .before .before .before .tidy .ensures) (c .before .before .before .before .before .before .before .sweep-tidied .ensures) _ (sym (c .before .before .before .before .before .before .granted2 .ensures) ∙ not-false _ (c .before .before .before .before .before .if2 .left)) (c .if3 .left);
+      collapses = omega arith;
+      divides = omega arith;
+      joins = omega arith;
+      after = collapses _ _ _ _ _ _ _ _ _ (c .before .before .before .before .before .before .before .before .before .before .before .before .loop .inv .after) _ _ _ _ (c .before .before .before .before .before .before .before .before .before .before .tidy .ensures) (c .before .before .before .before .before .before .before .before .next-event .ensures) (c .before .before .before .before .before .before .before .plan-of .ensures) (c .before .before .before .before .before .before .unless-stalled .ensures) _ _ _ (c .before .before .before .before .plan .given .1) (c .before .before .collapse .ensures) (c .before .if2 .left);
     }
 
-returns-4 : tie.Need-returns-4 Inv-loop μ-loop
-returns-4 c = unfinished _ _ _ _ _ _ _ _ _ (c .before .loop .inv .within) (c .loop-test .left) (c .before .loop .inv .after) ∙ sym (loaded _ _ (sym (c .before .before .before .granted .ensures) ∙ not-false _ (c .before .before .if1 .left)))
+enum-known-plan-2 : tie.Need-enum-known-plan-2 Inv-loop μ-loop
+enum-known-plan-2 c = search needs
+
+split-requires : tie.Need-split-requires Inv-loop μ-loop
+split-requires c κs = search needs
+
+granted-requires-2 : tie.Need-granted-requires-2 Inv-loop μ-loop
+granted-requires-2 c κs = search needs
+
+returns-5 : tie.Need-returns-5 Inv-loop μ-loop
+returns-5 c = split-lost _ _ _ _ _ _ _ _ _ (c .before .before .before .before .before .before .before .before .before .before .before .before .loop .inv .after) _ _ _ _ (c .before .before .before .before .before .before .before .before .before .before .tidy .ensures) (c .before .before .before .before .before .before .before .before .next-event .ensures) (c .before .before .before .before .before .before .before .plan-of .ensures) (c .before .before .before .before .before .before .unless-stalled .ensures) _ _ _ _ (c .before .before .before .before .plan2 .given .1) (c .before .before .split .ensures) (c .before .before .before .before .before .before .before .before .before .before .before .loop-test .taken) (sym (c .before .granted2 .ensures) ∙ not-true _ (c .if3 .taken)) ∙ sym (loaded _ _ (sym (c .before .before .before .before .before .before .before .before .before .before .before .before .before .before .granted .ensures) ∙ not-false _ (c .before .before .before .before .before .before .before .before .before .before .before .before .before .if1 .left)))
+
+add-divides : tie.Need-add-divides Inv-loop μ-loop
+add-divides c = search (needs, parts _ _ _ _ _ _ _ _ _ (c .before .before .before .before .before .before .before .before .before .before .before .before .before .before .loop .inv .after) _ _ _ _ (c .before .before .before .before .before .before .before .before .before .before .before .before .tidy .ensures) (c .before .before .before .before .before .before .before .before .before .before .next-event .ensures) (c .before .before .before .before .before .before .before .before .before .plan-of .ensures) (c .before .before .before .before .before .before .before .before .unless-stalled .ensures) _ _ _ _ (c .before .before .before .before .before .before .plan2 .given .1) (c .before .before .before .before .split .ensures))
+
+add-joins : tie.Need-add-joins Inv-loop μ-loop
+add-joins c = search (needs, parts _ _ _ _ _ _ _ _ _ (c .before .before .before .before .before .before .before .before .before .before .before .before .before .before .before .loop .inv .after) _ _ _ _ (c .before .before .before .before .before .before .before .before .before .before .before .before .before .tidy .ensures) (c .before .before .before .before .before .before .before .before .before .before .before .next-event .ensures) (c .before .before .before .before .before .before .before .before .before .before .plan-of .ensures) (c .before .before .before .before .before .before .before .before .before .unless-stalled .ensures) _ _ _ _ (c .before .before .before .before .before .before .before .plan2 .given .1) (c .before .before .before .before .before .split .ensures), c .before .before .before .before .before .before .before .before .before .before .before .before .before .before .before .loop .inv, c .before .before .before .before .before .before .before .before .before .before .before .before .before .before .loop-test .taken)
+
+loop-less-2 : tie.Need-loop-less-2 Inv-loop μ-loop
+loop-less-2 c = search needs
+
+loop-again-2 : tie.Need-loop-again-2 Inv-loop μ-loop
+loop-again-2 c =
+    let added = parts _ _ _ _ _ _ _ _ _ (c .before .before .before .before .before .before .before .before .before .before .before .before .before .before .before .loop .inv .after) _ _ _ _ (c .before .before .before .before .before .before .before .before .before .before .before .before .before .tidy .ensures) (c .before .before .before .before .before .before .before .before .before .before .before .next-event .ensures) (c .before .before .before .before .before .before .before .before .before .before .plan-of .ensures) (c .before .before .before .before .before .before .before .before .before .unless-stalled .ensures) _ _ _ _ (c .before .before .before .before .before .before .before .plan2 .given .1) (c .before .before .before .before .before .split .ensures) in
+    record {
+      within = omega arith;
+      collapses = omega (arith, c .before .before .before .before .before .before .before .before .before .before .before .before .before .before .before .loop .inv .collapses);
+      divides = omega (arith, added .divides, c .before .before .before .before .before .before .before .before .before .before .before .before .before .before .before .loop .inv .divides);
+      joins = omega (arith, added .joins, c .before .before .before .before .before .before .before .before .before .before .before .before .before .before .before .loop .inv .joins);
+      after = split-on _ _ _ _ _ _ _ _ _ (c .before .before .before .before .before .before .before .before .before .before .before .before .before .before .before .loop .inv .after) _ _ _ _ (c .before .before .before .before .before .before .before .before .before .before .before .before .before .tidy .ensures) (c .before .before .before .before .before .before .before .before .before .before .before .next-event .ensures) (c .before .before .before .before .before .before .before .before .before .before .plan-of .ensures) (c .before .before .before .before .before .before .before .before .before .unless-stalled .ensures) _ _ _ _ (c .before .before .before .before .before .before .before .plan2 .given .1) (c .before .before .before .before .before .split .ensures) (sym (c .before .before .before .before .granted2 .ensures) ∙ not-false _ (c .before .before .before .if3 .left));
+    }
+
+returns-6 : tie.Need-returns-6 Inv-loop μ-loop
+returns-6 c = unfinished _ _ _ _ _ _ _ _ _ (c .before .loop .inv .within) (c .loop-test .left) (c .before .loop .inv .after) ∙ sym (loaded _ _ (sym (c .before .before .before .granted .ensures) ∙ not-false _ (c .before .before .if1 .left)))
 
 pub offset-rings-spec : {M : Type 1} → statement M
 offset-rings-spec =
@@ -92,13 +135,25 @@ offset-rings-spec =
     loop-holds
     add-k
     tidy-requires
-    sweep-tidied-requires
-    granted-requires-2
+    next-event-requires
+    plan-of-requires
+    unless-stalled-requires
+    enum-told
     returns-2
-    add-collapses
-    add-divides
-    add-joins
+    enum-told-2
     returns-3
+    enum-known-plan
+    collapse-requires
+    returns-4
+    add-collapses
     loop-less
     loop-again
-    returns-4)
+    enum-known-plan-2
+    split-requires
+    granted-requires-2
+    returns-5
+    add-divides
+    add-joins
+    loop-less-2
+    loop-again-2
+    returns-6)

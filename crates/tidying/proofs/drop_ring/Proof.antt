@@ -9,7 +9,8 @@ use mathlib.Core.Bool.{false}
 use mathlib.Core.Path.{_≡_, ap, _∙_}
 use Prim.Native.Nat.{_≤_, _-_}
 use borrow.Author.Needs.{needs}
-use Rattle.tidying.proofs.Slots.{chosen-in, chosen-fits, slot-read, slot-kill, turn-in, turn-less}
+use Rattle.edges.proofs.Actions.{slot-read, slot-kill}
+use Rattle.tidying.proofs.Turns.{turn-in, turn-less}
 use Rattle.tidying.proofs.Dropped.{drop-at, drop-goes, drop-ends, drop-all}
 use Rattle.tidying.proofs.drop_ring.Statement.{statement}
 use Rattle.tidying.proofs.drop_ring.Tie as tie
@@ -26,14 +27,14 @@ loop-holds c = (search needs, c .good .0 .1 .0 .1, no-round _ _)
 add-k : tie.Need-add-k Inv-loop μ-loop
 add-k c = search needs
 
-choose-requires : tie.Need-choose-requires Inv-loop μ-loop
-choose-requires c κs = search needs
+within-requires : tie.Need-within-requires Inv-loop μ-loop
+within-requires c κs = search needs
 
-mul-read : tie.Need-mul-read Inv-loop μ-loop
-mul-read c = chosen-fits (c .before .before .loop .at) _ (c .choose .ensures)
+mul-own : tie.Need-mul-own Inv-loop μ-loop
+mul-own c = search needs
 
-array-copy-out-read : tie.Need-array-copy-out-read Inv-loop μ-loop
-array-copy-out-read c = chosen-in (c .before .before .loop .at) _ (c .choose .ensures)
+array-copy-out-own : tie.Need-array-copy-out-own Inv-loop μ-loop
+array-copy-out-own c = search needs
 
 edge-or-requires : tie.Need-edge-or-requires Inv-loop μ-loop
 edge-or-requires c κs = search needs
@@ -42,31 +43,31 @@ dead-if-requires : tie.Need-dead-if-requires Inv-loop μ-loop
 dead-if-requires c κs = search needs
 
 mul-f : tie.Need-mul-f Inv-loop μ-loop
-mul-f c = chosen-fits (c .before .before .before .before .before .loop .at) _ (c .before .before .before .choose .ensures)
+mul-f c = search needs
 
 array-set-from-f : tie.Need-array-set-from-f Inv-loop μ-loop
-array-set-from-f c = chosen-in (c .before .before .before .before .before .loop .at) _ (c .before .before .before .choose .ensures)
+array-set-from-f c = search needs
 
-choose-requires-2 : tie.Need-choose-requires-2 Inv-loop μ-loop
-choose-requires-2 c κs = search needs
+within-requires-2 : tie.Need-within-requires-2 Inv-loop μ-loop
+within-requires-2 c κs = search needs
 
 mul-edge-or : tie.Need-mul-edge-or Inv-loop μ-loop
-mul-edge-or c = chosen-fits (c .before .before .edge-or .result .next) _ (c .choose2 .ensures)
+mul-edge-or c = search needs
 
 array-copy-out-edge-or : tie.Need-array-copy-out-edge-or Inv-loop μ-loop
-array-copy-out-edge-or c = chosen-in (c .before .before .edge-or .result .next) _ (c .choose2 .ensures)
+array-copy-out-edge-or c = search needs
 
 edge-or-requires-2 : tie.Need-edge-or-requires-2 Inv-loop μ-loop
 edge-or-requires-2 c κs = search needs
 
 returns : tie.Need-returns Inv-loop μ-loop
-returns c = drop-ends _ _ _ _ _ _ _ _ (c .before .before .before .before .before .before .before .before .before .before .loop .inv .2) (ap (λ (e : Edge). e .next) (slot-read _ _ _ _ (c .before .before .before .before .before .before .before .before .choose .ensures) (c .before .before .before .before .before .before .edge-or .ensures))) (slot-kill _ _ _ _ (c .before .before .before .before .before .before .before .before .before .before .loop .inv .1) (c .before .before .before .before .before .before .before .before .choose .ensures) (c .before .before .before .before .before .dead-if .ensures)) (slot-read _ _ _ _ (c .before .before .before .before .choose2 .ensures) (c .before .before .edge-or2 .ensures)) (c .before .before .before .before .before .before .before .before .before .loop-test .taken) (c .if1 .taken)
+returns c = drop-ends _ _ _ _ _ _ _ _ (c .before .before .before .before .before .before .before .before .before .before .loop .inv .2) (ap (λ (e : Edge). e .next) (slot-read _ _ _ _ (c .before .before .before .before .before .before .before .before .within .ensures .0) (c .before .before .before .before .before .before .edge-or .ensures))) (slot-kill _ _ _ _ (c .before .before .before .before .before .before .before .before .before .before .loop .inv .1) (c .before .before .before .before .before .before .before .before .within .ensures .0) (c .before .before .before .before .before .dead-if .ensures)) (slot-read _ _ _ _ (c .before .before .before .before .within2 .ensures .0) (c .before .before .edge-or2 .ensures)) (c .before .before .before .before .before .before .before .before .before .loop-test .taken) (c .if1 .taken)
 
 loop-less : tie.Need-loop-less Inv-loop μ-loop
 loop-less c = turn-less _ (c .before .before .before .before .before .before .before .before .before .loop-test .taken)
 
 loop-again : tie.Need-loop-again Inv-loop μ-loop
-loop-again c = (turn-in _ (c .before .before .before .before .before .before .before .before .before .loop-test .taken), length-set (c .before .before .before .before .before .before .before .before .before .before .loop .f) (c .before .before .before .before .before .before .before .before .choose .result) (c .before .before .before .before .before .dead-if .result) ∙ c .before .before .before .before .before .before .before .before .before .before .loop .inv .1, drop-goes _ _ _ _ _ _ _ _ (c .before .before .before .before .before .before .before .before .before .before .loop .inv .2) (ap (λ (e : Edge). e .next) (slot-read _ _ _ _ (c .before .before .before .before .before .before .before .before .choose .ensures) (c .before .before .before .before .before .before .edge-or .ensures))) (slot-kill _ _ _ _ (c .before .before .before .before .before .before .before .before .before .before .loop .inv .1) (c .before .before .before .before .before .before .before .before .choose .ensures) (c .before .before .before .before .before .dead-if .ensures)) (slot-read _ _ _ _ (c .before .before .before .before .choose2 .ensures) (c .before .before .edge-or2 .ensures)) (c .if1 .left))
+loop-again c = (turn-in _ (c .before .before .before .before .before .before .before .before .before .loop-test .taken), length-set (c .before .before .before .before .before .before .before .before .before .before .loop .f) (c .before .before .before .before .before .before .before .before .within .result) (c .before .before .before .before .before .dead-if .result) ∙ c .before .before .before .before .before .before .before .before .before .before .loop .inv .1, drop-goes _ _ _ _ _ _ _ _ (c .before .before .before .before .before .before .before .before .before .before .loop .inv .2) (ap (λ (e : Edge). e .next) (slot-read _ _ _ _ (c .before .before .before .before .before .before .before .before .within .ensures .0) (c .before .before .before .before .before .before .edge-or .ensures))) (slot-kill _ _ _ _ (c .before .before .before .before .before .before .before .before .before .before .loop .inv .1) (c .before .before .before .before .before .before .before .before .within .ensures .0) (c .before .before .before .before .before .dead-if .ensures)) (slot-read _ _ _ _ (c .before .before .before .before .within2 .ensures .0) (c .before .before .edge-or2 .ensures)) (c .if1 .left))
 
 returns-2 : tie.Need-returns-2 Inv-loop μ-loop
 returns-2 c = drop-all _ _ _ _ _ (omega arith) (c .before .loop .inv .2)
@@ -79,14 +80,14 @@ drop-ring-spec =
     μ-loop
     loop-holds
     add-k
-    choose-requires
-    mul-read
-    array-copy-out-read
+    within-requires
+    mul-own
+    array-copy-out-own
     edge-or-requires
     dead-if-requires
     mul-f
     array-set-from-f
-    choose-requires-2
+    within-requires-2
     mul-edge-or
     array-copy-out-edge-or
     edge-or-requires-2

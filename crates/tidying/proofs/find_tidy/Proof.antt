@@ -1,9 +1,8 @@
 -- `tidying::find_tidy` meets its contract. Assumes nothing.
-use Rattle.front.specs.Edges.{blank}
-use lib.ListN.{getD}
 use borrow.Author.Tests.{not-true, not-false}
 use Rattle.tidying.proofs.Found.{find-dead, find-on, find-ends, find-none}
-use Rattle.tidying.proofs.Slots.{chosen-in, chosen-fits, slot-read, turn-in, turn-less}
+use Rattle.edges.proofs.Actions.{slot-read}
+use Rattle.tidying.proofs.Turns.{turn-in, turn-less}
 use Rattle.front.proofs.EdgeLaws.{edge-in}
 use Rattle.front.specs.Tidying.{find-step}
 use Rattle.front.specs.declared.Tidy.the-variants.{Settled}
@@ -34,38 +33,38 @@ mul-e c = search needs
 array-copy-out-e : tie.Need-array-copy-out-e Inv-loop μ-loop
 array-copy-out-e c = search needs
 
-choose-requires : tie.Need-choose-requires Inv-loop μ-loop
-choose-requires c κs = search needs
+within-requires : tie.Need-within-requires Inv-loop μ-loop
+within-requires c κs = search needs
 
 mul-edge-or : tie.Need-mul-edge-or Inv-loop μ-loop
-mul-edge-or c = chosen-fits ((getD (c .before .before .before .before .before .args .t1) (c .before .before .before .before .loop .k) blank) .previous) _ (c .choose .ensures)
+mul-edge-or c = search needs
 
 array-copy-out-edge-or : tie.Need-array-copy-out-edge-or Inv-loop μ-loop
-array-copy-out-edge-or c = chosen-in ((getD (c .before .before .before .before .before .args .t1) (c .before .before .before .before .loop .k) blank) .previous) _ (c .choose .ensures)
+array-copy-out-edge-or c = search needs
 
 edge-or-requires : tie.Need-edge-or-requires Inv-loop μ-loop
 edge-or-requires c κs = search needs
 
-choose-requires-2 : tie.Need-choose-requires-2 Inv-loop μ-loop
-choose-requires-2 c κs = search needs
+within-requires-2 : tie.Need-within-requires-2 Inv-loop μ-loop
+within-requires-2 c κs = search needs
 
 mul-edge-or-2 : tie.Need-mul-edge-or-2 Inv-loop μ-loop
-mul-edge-or-2 c = chosen-fits ((getD (c .before .before .before .before .before .before .before .before .args .t1) (c .before .before .before .before .before .before .before .loop .k) blank) .next) _ (c .choose2 .ensures)
+mul-edge-or-2 c = search needs
 
 array-copy-out-edge-or-2 : tie.Need-array-copy-out-edge-or-2 Inv-loop μ-loop
-array-copy-out-edge-or-2 c = chosen-in ((getD (c .before .before .before .before .before .before .before .before .args .t1) (c .before .before .before .before .before .before .before .loop .k) blank) .next) _ (c .choose2 .ensures)
+array-copy-out-edge-or-2 c = search needs
 
 edge-or-requires-2 : tie.Need-edge-or-requires-2 Inv-loop μ-loop
 edge-or-requires-2 c κs = search needs
 
-choose-requires-3 : tie.Need-choose-requires-3 Inv-loop μ-loop
-choose-requires-3 c κs = search needs
+within-requires-3 : tie.Need-within-requires-3 Inv-loop μ-loop
+within-requires-3 c κs = search needs
 
 mul-edge-or-3 : tie.Need-mul-edge-or-3 Inv-loop μ-loop
-mul-edge-or-3 c = chosen-fits (c .before .edge-or2 .result .previous) _ (c .choose3 .ensures)
+mul-edge-or-3 c = search needs
 
 array-copy-out-edge-or-3 : tie.Need-array-copy-out-edge-or-3 Inv-loop μ-loop
-array-copy-out-edge-or-3 c = chosen-in (c .before .edge-or2 .result .previous) _ (c .choose3 .ensures)
+array-copy-out-edge-or-3 c = search needs
 
 edge-or-requires-3 : tie.Need-edge-or-requires-3 Inv-loop μ-loop
 edge-or-requires-3 c κs = search needs
@@ -77,13 +76,13 @@ settled-requires : tie.Need-settled-requires Inv-loop μ-loop
 settled-requires c κs = search needs
 
 returns : tie.Need-returns Inv-loop μ-loop
-returns c = find-ends _ _ _ _ (c .before .before .before .before .before .before .before .before .before .before .before .before .before .before .before .loop .inv .1) (sym (edge-in _ _ (c .before .before .before .before .before .before .before .before .before .before .before .before .before .before .loop-test .taken))) _ _ _ _ (c .before .before .before .before .before .before .before .before .before .before .before .before .if1 .taken) (slot-read _ _ _ _ (c .before .before .before .before .before .before .before .before .before .before .before .choose .ensures) (c .before .before .before .before .before .before .before .before .before .edge-or .ensures)) (slot-read _ _ _ _ (c .before .before .before .before .before .before .before .before .choose2 .ensures) (c .before .before .before .before .before .before .edge-or2 .ensures)) (slot-read _ _ _ _ (c .before .before .before .before .before .choose3 .ensures) (c .before .before .before .edge-or3 .ensures)) (c .before .before .tidy-between .ensures) (c .before .before .before .before .before .before .before .before .before .before .before .before .before .before .loop-test .taken) (sym (c .before .settled .ensures) ∙ not-true _ (c .if2 .taken))
+returns c = find-ends _ _ _ _ (c .before .before .before .before .before .before .before .before .before .before .before .before .before .before .before .loop .inv .1) (sym (edge-in _ _ (c .before .before .before .before .before .before .before .before .before .before .before .before .before .before .loop-test .taken))) _ _ _ _ (c .before .before .before .before .before .before .before .before .before .before .before .before .if1 .taken) (slot-read _ _ _ _ (c .before .before .before .before .before .before .before .before .before .before .before .within .ensures .0) (c .before .before .before .before .before .before .before .before .before .edge-or .ensures)) (slot-read _ _ _ _ (c .before .before .before .before .before .before .before .before .within2 .ensures .0) (c .before .before .before .before .before .before .edge-or2 .ensures)) (slot-read _ _ _ _ (c .before .before .before .before .before .within3 .ensures .0) (c .before .before .before .edge-or3 .ensures)) (c .before .before .tidy-between .ensures) (c .before .before .before .before .before .before .before .before .before .before .before .before .before .before .loop-test .taken) (sym (c .before .settled .ensures) ∙ not-true _ (c .if2 .taken))
 
 loop-less : tie.Need-loop-less Inv-loop μ-loop
 loop-less c = turn-less _ (c .before .before .before .before .before .before .before .before .before .before .before .before .before .before .loop-test .taken)
 
 loop-again : tie.Need-loop-again Inv-loop μ-loop
-loop-again c = (turn-in _ (c .before .before .before .before .before .before .before .before .before .before .before .before .before .before .loop-test .taken), find-on _ _ _ _ (c .before .before .before .before .before .before .before .before .before .before .before .before .before .before .before .loop .inv .1) (sym (edge-in _ _ (c .before .before .before .before .before .before .before .before .before .before .before .before .before .before .loop-test .taken))) _ _ _ _ (c .before .before .before .before .before .before .before .before .before .before .before .before .if1 .taken) (slot-read _ _ _ _ (c .before .before .before .before .before .before .before .before .before .before .before .choose .ensures) (c .before .before .before .before .before .before .before .before .before .edge-or .ensures)) (slot-read _ _ _ _ (c .before .before .before .before .before .before .before .before .choose2 .ensures) (c .before .before .before .before .before .before .edge-or2 .ensures)) (slot-read _ _ _ _ (c .before .before .before .before .before .choose3 .ensures) (c .before .before .before .edge-or3 .ensures)) (c .before .before .tidy-between .ensures) (sym (c .before .settled .ensures) ∙ not-false _ (c .if2 .left)))
+loop-again c = (turn-in _ (c .before .before .before .before .before .before .before .before .before .before .before .before .before .before .loop-test .taken), find-on _ _ _ _ (c .before .before .before .before .before .before .before .before .before .before .before .before .before .before .before .loop .inv .1) (sym (edge-in _ _ (c .before .before .before .before .before .before .before .before .before .before .before .before .before .before .loop-test .taken))) _ _ _ _ (c .before .before .before .before .before .before .before .before .before .before .before .before .if1 .taken) (slot-read _ _ _ _ (c .before .before .before .before .before .before .before .before .before .before .before .within .ensures .0) (c .before .before .before .before .before .before .before .before .before .edge-or .ensures)) (slot-read _ _ _ _ (c .before .before .before .before .before .before .before .before .within2 .ensures .0) (c .before .before .before .before .before .before .edge-or2 .ensures)) (slot-read _ _ _ _ (c .before .before .before .before .before .within3 .ensures .0) (c .before .before .before .edge-or3 .ensures)) (c .before .before .tidy-between .ensures) (sym (c .before .settled .ensures) ∙ not-false _ (c .if2 .left)))
 
 loop-less-2 : tie.Need-loop-less-2 Inv-loop μ-loop
 loop-less-2 c = search needs
@@ -104,15 +103,15 @@ find-tidy-spec =
     add-k
     mul-e
     array-copy-out-e
-    choose-requires
+    within-requires
     mul-edge-or
     array-copy-out-edge-or
     edge-or-requires
-    choose-requires-2
+    within-requires-2
     mul-edge-or-2
     array-copy-out-edge-or-2
     edge-or-requires-2
-    choose-requires-3
+    within-requires-3
     mul-edge-or-3
     array-copy-out-edge-or-3
     edge-or-requires-3

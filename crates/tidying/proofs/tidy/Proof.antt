@@ -12,17 +12,14 @@ find-tidy-requires c κs = search needs
 settled-requires : tie.Need-settled-requires
 settled-requires c κs = search needs
 
-tidy-by-requires : tie.Need-tidy-by-requires
-tidy-by-requires c κs = search needs
-
-tidy-on-requires : tie.Need-tidy-on-requires
-tidy-on-requires c κs = search needs
+tidy-from-requires : tie.Need-tidy-from-requires
+tidy-from-requires c κs = search needs
 
 returns : tie.Need-returns
 returns c = tidy-none _ _ _ (c .before .before .find-tidy .ensures) (settled-is _ (sym (c .before .settled .ensures) ∙ c .if1 .taken))
 
 returns-2 : tie.Need-returns-2
-returns-2 c = tidy-more _ _ _ _ _ (c .before .before .before .before .find-tidy .ensures) (c .before .tidy-by .ensures) (c .tidy-on .ensures)
+returns-2 c = tidy-more _ _ _ _ (c .before .before .before .find-tidy .ensures) (c .tidy-from .ensures)
 
 pub tidy-spec : {M : Type 1} → statement M
 tidy-spec =
@@ -30,7 +27,6 @@ tidy-spec =
     (tie.spec
     find-tidy-requires
     settled-requires
-    tidy-by-requires
-    tidy-on-requires
+    tidy-from-requires
     returns
     returns-2)

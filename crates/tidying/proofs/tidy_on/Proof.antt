@@ -1,6 +1,6 @@
 -- `tidying::tidy_on` meets its contract. Assumes nothing.
 use Rattle.tidying.proofs.Steps.{steps-end, steps-on, steps-all}
-use Rattle.tidying.proofs.Slots.{turn-in, turn-less}
+use Rattle.tidying.proofs.Turns.{turn-in, turn-less}
 use Rattle.front.specs.Tidying.{tidy-step}
 use Rattle.loops.proofs.Laws.{no-round}
 use Rattle.loops.specs.Loop.{rounds}

@@ -1,0 +1,18 @@
+-- `events::closing` meets its contract. Assumes nothing.
+use Rattle.events.specs.Found
+use borrow.Author.Needs.{needs}
+use Rattle.events.proofs.closing.Statement.{statement}
+use Rattle.events.proofs.closing.Tie as tie
+
+normal-requires : tie.Need-normal-requires
+normal-requires c κs = search needs
+
+dot-requires : tie.Need-dot-requires
+dot-requires c κs = search needs
+
+returns : tie.Need-returns
+unfolding Found.closing
+returns c = cc
+
+pub closing-spec : {M : Type 1} → statement M
+closing-spec = tie.close (tie.spec normal-requires dot-requires returns)
