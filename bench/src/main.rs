@@ -1,6 +1,7 @@
-//! `bench`: nanoseconds a call of our `hypot` beside the C library's, and of the questions about outlines beside the Rust's. `bench test`: compares our `hypot` with an exact one.
+//! `bench`: nanoseconds a call of our `hypot` beside the C library's, and of the questions about outlines and their offsets beside the Rust's. `bench test`: compares our `hypot` with an exact one.
 mod cases;
 mod exact;
+mod offsets;
 mod outlines;
 
 use cases::{Pair, Random};
@@ -83,6 +84,8 @@ fn main() {
             measure();
             println!();
             outlines::measure();
+            println!();
+            offsets::measure();
         }
         Some("test") => {
             let n = compare();

@@ -35,12 +35,17 @@ struct Nearest {
 }
 
 extern "C" {
+    fn lw_check(numbers: *const f64, length: usize) -> Outline;
     fn lw_outline(numbers: *const f64, length: usize, out: *mut f64, room: usize) -> Outline;
     fn lw_contains(outline: *const f64, length: usize, east: f64, north: f64) -> Place;
     fn lw_nearest(outline: *const f64, length: usize, east: f64, north: f64) -> Nearest;
 }
 
-fn check(numbers: &[f64], out: &mut [f64]) -> Outline {
+fn check(numbers: &[f64]) -> Outline {
+    unsafe { lw_check(numbers.as_ptr(), numbers.len()) }
+}
+
+fn outline(numbers: &[f64], out: &mut [f64]) -> Outline {
     unsafe { lw_outline(numbers.as_ptr(), numbers.len(), out.as_mut_ptr(), out.len()) }
 }
 
@@ -53,12 +58,12 @@ fn nearest(ring: &[f64], p: (f64, f64)) -> Nearest {
 }
 
 /// Points on an ellipse.
-fn ellipse(n: usize) -> Vec<f64> {
+pub fn ellipse(n: usize) -> Vec<f64> {
     (0..n).flat_map(|k| { let a = k as f64 / n as f64 * TAU; [100.0 * a.cos(), 60.0 * a.sin()] }).collect()
 }
 
 /// A star-shaped ring with random radii: a drawn outline's spikes and notches.
-fn star(n: usize) -> Vec<f64> {
+pub fn star(n: usize) -> Vec<f64> {
     let mut r = Random(7);
     let mut ring = Vec::new();
     for k in 0..n {
@@ -70,7 +75,7 @@ fn star(n: usize) -> Vec<f64> {
 }
 
 /// Long teeth side by side.
-fn comb(n: usize) -> Vec<f64> {
+pub fn comb(n: usize) -> Vec<f64> {
     let teeth = n / 4;
     let mut ring = Vec::new();
     for k in 0..teeth {
@@ -84,7 +89,7 @@ fn comb(n: usize) -> Vec<f64> {
 }
 
 /// Nanoseconds a call.
-fn once(calls: usize, mut work: impl FnMut()) -> f64 {
+pub fn once(calls: usize, mut work: impl FnMut()) -> f64 {
     let start = Instant::now();
     work();
     start.elapsed().as_nanos() as f64 / calls as f64
@@ -113,8 +118,9 @@ fn place_of(c: Containment) -> usize {
 /// Both answer alike: the stored ring, where each point lies, and its distance but for what an inexact `hypot` rounds.
 fn agree(ring: &[f64], polygon: &Polygon<128>, points: &[(f64, f64)], planar: &[PlanarPoint]) {
     let mut out = [0.0; 256];
-    let made = check(ring, &mut out);
-    assert_eq!((made.refusal, made.count), (0, ring.len() / 2));
+    for made in [outline(ring, &mut out), check(ring)] {
+        assert_eq!((made.refusal, made.count), (0, ring.len() / 2));
+    }
     for (k, v) in polygon.vertices().iter().enumerate() {
         assert_eq!((out[2 * k], out[2 * k + 1]), (v.east_metres(), v.north_metres()));
     }
@@ -142,11 +148,15 @@ pub fn measure() {
             agree(&ring, &polygon, &points, &asked);
             let checks = 1 + 4096 / n / n;
             let mut out = [0.0; 256];
-            let mut best = [[f64::INFINITY; 2]; 3];
+            let mut best = [[f64::INFINITY; 2]; 4];
             for _ in 0..PASSES {
                 let passes = [
                     [
-                        once(checks, || for _ in 0..checks { black_box(check(black_box(&ring), black_box(&mut out))); }),
+                        once(checks, || for _ in 0..checks { black_box(check(black_box(&ring))); }),
+                        once(checks, || for _ in 0..checks { black_box(&Polygon::<128>::new(black_box(&vertices))); }),
+                    ],
+                    [
+                        once(checks, || for _ in 0..checks { black_box(outline(black_box(&ring), black_box(&mut out))); }),
                         once(checks, || for _ in 0..checks { black_box(&Polygon::<128>::new(black_box(&vertices))); }),
                     ],
                     [
@@ -162,7 +172,7 @@ pub fn measure() {
                     *b = b.min(*t);
                 }
             }
-            for (row, [ours, theirs]) in ["check", "contains", "nearest"].iter().zip(best) {
+            for (row, [ours, theirs]) in ["check", "check, lent output", "contains", "nearest"].iter().zip(best) {
                 println!("{:<30}{:>10.1}{:>10.1}{:>12.2}", format!("{row}, {name} of {n}"), ours, theirs, ours / theirs);
             }
         }

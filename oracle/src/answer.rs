@@ -159,7 +159,7 @@ fn rings(job: &Job) -> Result<Vec<Vec<PlanarPoint>>, Refusal> {
 }
 
 /// Question 13.
-fn checked_distance(distance: f64) -> Result<Distance, Refusal> {
+pub(crate) fn checked_distance(distance: f64) -> Result<Distance, Refusal> {
     if !distance.is_finite() || distance > LARGEST {
         return Err(Refusal::of(13, &[], &[]));
     }
@@ -205,7 +205,7 @@ fn of_region(error: NavigationError) -> Refusal {
 }
 
 /// Questions 14 to 19, and 4 to 6 of a piece.
-fn of_offset(error: NavigationError) -> Refusal {
+pub(crate) fn of_offset(error: NavigationError) -> Refusal {
     match error {
         NavigationError::Kernel(KernelError::OutOfRange {
             parameter: "offset distance, metres",

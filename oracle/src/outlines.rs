@@ -7,8 +7,9 @@
 
 use std::fmt;
 
-use crate::answer::{bits, of_ring, points, Refusal, ROOM};
+use crate::answer::{bits, checked_distance, of_offset, of_ring, points, Refusal, ROOM};
 use crate::error::{KernelError, NavigationError};
+use crate::events;
 use crate::region::{Area, Containment, PlanarPoint, Polygon};
 
 /// Largest coordinate of question 21.
@@ -45,10 +46,12 @@ pub enum Question {
     Point([f64; 2], [f64; 2]),
     /// An area of so many square metres, and one of so many hectares.
     Area(f64),
+    /// The outset, or else the inset, by a distance.
+    Offset(bool, f64, Shape),
 }
 
 /// How many kinds of questions there are.
-pub const KINDS: usize = 8;
+pub const KINDS: usize = 9;
 
 /// Names of the kinds.
 pub const NAMES: [&str; KINDS] = [
@@ -60,6 +63,7 @@ pub const NAMES: [&str; KINDS] = [
     "edge",
     "point",
     "area",
+    "offset",
 ];
 
 impl Question {
@@ -74,6 +78,7 @@ impl Question {
             Self::Edge(..) => 5,
             Self::Point(..) => 6,
             Self::Area(_) => 7,
+            Self::Offset(..) => 8,
         }
     }
 
@@ -95,6 +100,11 @@ impl Question {
             Self::Edge(shape, place) => [vec![shape.count, *place], raw(&shape.numbers)].concat(),
             Self::Point(first, second) => [raw(first), raw(second)].concat(),
             Self::Area(value) => raw(&[*value]),
+            Self::Offset(outward, distance, shape) => [
+                vec![u64::from(*outward), distance.to_bits(), shape.count],
+                raw(&shape.numbers),
+            ]
+            .concat(),
         }
     }
 
@@ -109,6 +119,7 @@ impl Question {
             Self::Edge(shape, place) => edge(shape, *place),
             Self::Point(first, second) => two_points(*first, *second),
             Self::Area(value) => area(*value),
+            Self::Offset(outward, distance, shape) => offset(*outward, *distance, shape),
         }
     }
 
@@ -151,16 +162,18 @@ fn carried(refusal: Option<&Refusal>) -> [u64; 5] {
     ]
 }
 
+/// The count and the stored numbers; 0 where there is no outline.
+fn stored(outline: Option<&Outline>) -> Vec<u64> {
+    let numbers = outline.map_or(Vec::new(), numbers_of);
+    let count = numbers.len() as u64 / 2;
+    [vec![count], numbers.into_iter().map(bits).collect()].concat()
+}
+
 /// What is carried, the count, the stored numbers.
 fn outline(numbers: &[f64]) -> Vec<u64> {
-    match new_outline(numbers) {
-        Err(refusal) => [carried(Some(&refusal)).to_vec(), vec![0]].concat(),
-        Ok(outline) => {
-            let count = outline.vertices().len() as u64;
-            let stored = numbers_of(&outline).into_iter().map(bits).collect();
-            [carried(None).to_vec(), vec![count], stored].concat()
-        }
-    }
+    let made = new_outline(numbers);
+    let carried = carried(made.as_ref().err());
+    [carried.to_vec(), stored(made.as_ref().ok())].concat()
 }
 
 /// Question 21, then the outline: the reference is asked on what its `new`
@@ -318,28 +331,70 @@ fn area(value: f64) -> Vec<u64> {
     .concat()
 }
 
+/// Questions 21 and 13, then what the reference answers.
+fn offset_of(outward: bool, distance: f64, shape: &Shape) -> Result<Outline, Refusal> {
+    let outline = proper(shape)?;
+    let distance = checked_distance(distance)?;
+    let result = if outward {
+        outline.outset(distance)
+    } else {
+        outline.inset(distance)
+    };
+    result.map_err(of_offset)
+}
+
+/// What is carried, the completed events, the count, the stored numbers.
+fn offset(outward: bool, distance: f64, shape: &Shape) -> Vec<u64> {
+    events::clear();
+    let made = offset_of(outward, distance, shape);
+    let events = events::events();
+    let counts = [events.collapses, events.divides, events.joins];
+    [
+        carried(made.as_ref().err()).to_vec(),
+        counts.map(|count| count as u64).to_vec(),
+        stored(made.as_ref().ok()),
+    ]
+    .concat()
+}
+
 /// How often each kind, and each number within it.
 #[derive(Debug, Clone, Default)]
 pub struct Tally {
     /// By kind and number; 0 is granted.
     pub numbers: [[usize; 23]; KINDS],
+    /// Completed collapses, dividing splits and joining splits of the offsets.
+    pub events: [u64; 3],
 }
 
 impl Tally {
     /// Counts one question.
     pub fn add(&mut self, question: &Question) {
-        self.numbers[question.kind()][question.answer()[0] as usize] += 1;
+        let answer = question.answer();
+        self.numbers[question.kind()][answer[0] as usize] += 1;
+        if matches!(question, Question::Offset(..)) {
+            for (sum, count) in self.events.iter_mut().zip(&answer[5..]) {
+                *sum += count;
+            }
+        }
     }
 }
 
 impl fmt::Display for Tally {
     fn fmt(&self, f: &mut fmt::Formatter<'_>) -> fmt::Result {
         for (name, numbers) in NAMES.iter().zip(&self.numbers) {
-            write!(f, "{name} {}:", numbers.iter().sum::<usize>())?;
+            let total: usize = numbers.iter().sum();
+            if total == 0 {
+                continue;
+            }
+            write!(f, "{name} {total}:")?;
             for (number, count) in numbers.iter().enumerate().filter(|(_, count)| **count > 0) {
                 write!(f, " {number}×{count}")?;
             }
             writeln!(f)?;
+        }
+        if self.events != [0; 3] {
+            let [collapses, divides, joins] = self.events;
+            writeln!(f, "events {collapses} {divides} {joins}")?;
         }
         Ok(())
     }

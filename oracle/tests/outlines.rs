@@ -2,7 +2,7 @@
 
 use std::collections::BTreeMap;
 
-use oracle::generate::question;
+use oracle::generate::{offset, question};
 use oracle::outlines::{Question, Shape, Tally, KINDS, NAMES};
 
 const S: &[[f64; 2]] = &[[0.0, 0.0], [4.0, 0.0], [4.0, 4.0], [0.0, 4.0]];
@@ -62,6 +62,57 @@ fn e7_containment() {
     assert_eq!(place([5.0, 2.0]), [0, 0, 2]);
     assert_eq!(place([f64::NAN, f64::NAN]), [2, 0, 2]);
     assert_eq!(place([5.0, f64::INFINITY]), [2, 1, 2]);
+}
+
+/// The question of an offset of S.
+fn of_square(outward: bool, distance: f64) -> Question {
+    Question::Offset(outward, distance, shape(S))
+}
+
+/// The answer to an offset that is granted without an event.
+fn pulled(ring: &[[f64; 2]]) -> Vec<u64> {
+    let stored = numbers(ring).into_iter().map(f64::to_bits).collect();
+    [vec![0; 8], vec![ring.len() as u64], stored].concat()
+}
+
+/// The drawn examples about offsets of S: side, distance, answer.
+fn drawn_offsets() -> Vec<(bool, f64, Vec<u64>)> {
+    let refused = |number: u64, float: f64, collapses| {
+        vec![number, 0, 0, 0, float.to_bits(), collapses, 0, 0, 0]
+    };
+    let within = [[1.0, 1.0], [3.0, 1.0], [3.0, 3.0], [1.0, 3.0]];
+    let about = [[-1.0, 5.0], [-1.0, -1.0], [5.0, -1.0], [5.0, 5.0]];
+    vec![
+        // E8.
+        (false, 1.0, pulled(&within)),
+        // E9.
+        (false, 2.0, refused(16, 2.0, 0)),
+        (false, 3.0, refused(16, 3.0, 1)),
+        // E10.
+        (true, 1.0, pulled(&about)),
+        // E14.
+        (false, -1.0, refused(14, -1.0, 0)),
+        (false, f64::NAN, refused(13, 0.0, 0)),
+        (false, 1e12, refused(16, 1e12, 1)),
+        (false, -0.0, pulled(S)),
+    ]
+}
+
+#[test]
+fn e8_e9_e10_e14_offsets() {
+    let lines: Vec<String> = stored_list().map(|asked| asked.line()).collect();
+    for (outward, distance, answer) in drawn_offsets() {
+        let question = of_square(outward, distance);
+        assert_eq!(question.answer(), answer, "{outward} {distance}");
+        assert!(lines.contains(&question.line()), "{outward} {distance}");
+    }
+}
+
+#[test]
+fn an_offset_that_is_refused_by_its_shape() {
+    let few = Question::Offset(true, f64::NAN, shape(&S[..2]));
+    assert_eq!(few.answer(), [21, 0, 0, 0, 0, 0, 0, 0, 0]);
+    assert_eq!(few.fields()[..3], [1, f64::NAN.to_bits(), 2]);
 }
 
 #[test]
@@ -143,9 +194,11 @@ fn a_line() {
     assert_eq!(line, "0000000000000006,0000000000000005,0000000000000000,0000000000000000,0000000000000000,0000000000000000,4014000000000000,0000000000000000,8000000000000000,4008000000000000,4010000000000000");
 }
 
-/// The stored list: 700 questions of each of the seeds 1, 2 and 3.
+/// The stored list: 700 questions of each of the seeds 1, 2 and 3, and 500
+/// offsets of seed 22.
 fn stored_list() -> impl Iterator<Item = Question> {
-    (1..=3).flat_map(|seed| (0..700).map(move |index| question(seed, index)))
+    let asked = (1..=3).flat_map(|seed| (0..700).map(move |index| question(seed, index)));
+    asked.chain((0..500).map(|index| offset(22, index)))
 }
 
 #[test]
@@ -163,6 +216,7 @@ fn the_stored_list_reaches_every_number() {
         &[0, 21],
         &[0, 2],
         &[0, 2, 14],
+        &[0, 4, 5, 13, 14, 15, 16, 17, 18, 21],
     ];
     for (kind, numbers) in tally.numbers.iter().enumerate() {
         for (number, count) in numbers.iter().enumerate() {
@@ -391,7 +445,105 @@ fn other_cases(question: &Question, answer: &[u64]) -> Vec<(&'static str, bool)>
             ("only hectares refused", answer[0] == 0 && answer[4] == 2),
             ("an area not finite", answer[0] == 2),
         ],
+        Question::Offset(outward, distance, shape) => {
+            offset_cases(*outward, *distance, shape, answer)
+        }
     }
+}
+
+/// What an offset's question and answer are an instance of.
+fn offset_cases(
+    outward: bool,
+    distance: f64,
+    shape: &Shape,
+    answer: &[u64],
+) -> Vec<(&'static str, bool)> {
+    let [number, ring, first, _, _, collapses, divides, joins, count] = answer[..9] else {
+        panic!("nine fields and the numbers");
+    };
+    let events = collapses + divides + joins;
+    let (granted, inward) = (number == 0, !outward);
+    let moved = granted && distance > 0.0;
+    let given = |vertices: u64| moved && shape.count == vertices;
+    let limit = |steps: i64| f64::from_bits(1e12_f64.to_bits().wrapping_add_signed(steps));
+    let extremes: Vec<f64> = shape.numbers.iter().map(|x| x.abs()).collect();
+    vec![
+        ("13 of a NaN", number == 13 && distance.is_nan()),
+        ("13 of an infinity", number == 13 && distance.is_infinite()),
+        ("13, the next above", number == 13 && distance == limit(1)),
+        ("the largest distance", distance == 1e12 && number == 16),
+        ("the largest, outset", distance == 1e12 && number == 5),
+        ("the next below", distance == limit(-1) && number != 13),
+        ("14, below -1e12", number == 14 && distance < -1e12),
+        ("14, subnormal", number == 14 && distance.is_subnormal()),
+        ("14, outset", number == 14 && outward),
+        ("by 0", granted && distance.to_bits() == 0),
+        ("by -0", granted && distance.to_bits() == 1 << 63),
+        ("by 0, outset", granted && distance == 0.0 && outward),
+        (
+            "17 by a subnormal distance",
+            number == 17 && distance.is_subnormal(),
+        ),
+        ("15 at a split", number == 15 && first == 129 && events == 0),
+        (
+            "15 after an event",
+            number == 15 && first == 129 && events > 0,
+        ),
+        ("16, no event", number == 16 && events == 0),
+        ("16 after collapses", number == 16 && collapses > 9),
+        ("16 after a division", number == 16 && divides > 0),
+        ("17, no event", number == 17 && events == 0),
+        ("17 after a collapse", number == 17 && collapses > 0),
+        ("17 after a division", number == 17 && divides > 0),
+        ("17, outset", number == 17 && outward),
+        ("18", number == 18 && first == 387 && events == 387),
+        ("4 of a piece", number == 4 && first == 2 && ring == 0),
+        ("4 of a later piece", number == 4 && ring > 0),
+        ("5 of a piece, inset", number == 5 && inward),
+        ("5 of a piece, outset", number == 5 && outward),
+        ("5 of a later piece", number == 5 && ring > 0),
+        ("21, few", number == 21 && shape.count < 3),
+        ("21, many", number == 21 && shape.count > 128),
+        (
+            "21, the count huge",
+            number == 21 && shape.count == u64::MAX,
+        ),
+        (
+            "21, a number out of range",
+            number == 21 && (3..=128).contains(&shape.count) && extremes.iter().any(|x| *x > 1e9),
+        ),
+        (
+            "21, too few numbers",
+            number == 21 && (shape.numbers.len() as u64) < shape.count.saturating_mul(2),
+        ),
+        ("21 before 13", number == 21 && !distance.is_finite()),
+        ("21 before 14", number == 21 && distance < 0.0),
+        (
+            "an inset, many collapses",
+            moved && inward && collapses > 30,
+        ),
+        ("an inset, a division", moved && inward && divides > 0),
+        ("an inset, a join", moved && inward && joins > 0),
+        ("an inset, no event", moved && inward && events == 0),
+        ("an outset, collapses", moved && outward && collapses > 3),
+        ("an outset, a division", moved && outward && divides > 0),
+        ("an outset, no event", moved && outward && events == 0),
+        ("8 vertices", given(8)),
+        ("32 vertices", given(32)),
+        ("127 vertices", given(127)),
+        ("128 vertices", given(128)),
+        ("128 vertices, outset", given(128) && outward),
+        ("128 vertices left", moved && count == 128),
+        ("fewer vertices left", moved && count < shape.count),
+        (
+            "offset, numbers past the vertices",
+            moved && shape.numbers.len() as u64 > 2 * shape.count,
+        ),
+        (
+            "at the limits of the coordinates",
+            moved && extremes.iter().all(|x| *x > 9e8),
+        ),
+    ]
 }
 
 #[test]

@@ -1,6 +1,6 @@
 -- What the functions for C answer: a refusal's number and what it carries as plain numbers, beside the value. Assumes nothing.
 use Prim.Native.Nat.{ℕ, _/_, _%_}
-use mathlib.Core.Bool.{Bool, cond}
+use mathlib.Core.Bool.{Bool, false, cond}
 use mathlib.Core.List.{List}
 use lib.Dec.{eqb}
 use lib.ListN.{length}
@@ -13,7 +13,9 @@ use Rattle.plane.specs.declared.PlanarPoint.{PlanarPoint}
 use Rattle.plane.specs.declared.Containment.{Containment}
 use Rattle.plane.specs.declared.Containment.the-variants.{Inside, OnBoundary, Outside}
 use Rattle.polygon.specs.declared.NewOutline.{NewOutline}
-use Rattle.polygon.specs.Outlines.{outline}
+use Rattle.polygon.specs.declared.Outline.{Outline}
+use Rattle.polygon.specs.Outlines.{outline, stored-outline}
+use Rattle.offset.specs.declared.OffsetWritten.{OffsetWritten}
 use Rattle.lent.specs.Writes.{ring-write, written-ring}
 use Rattle.queries.specs.declared.Placed.{Placed}
 use Rattle.queries.specs.declared.Neared.{Neared}
@@ -21,6 +23,7 @@ use Rattle.queries.specs.Queries.{contains, nearest}
 use Rattle.lizardwire_c.specs.declared.LwOutline.{LwOutline}
 use Rattle.lizardwire_c.specs.declared.LwPlace.{LwPlace}
 use Rattle.lizardwire_c.specs.declared.LwNearest.{LwNearest}
+use Rattle.lizardwire_c.specs.declared.LwOffset.{LwOffset}
 
 -- how many vertices the numbers of a shape handed in are; none where their count is odd, which 21 then refuses
 unfoldable pub vertices : ℕ → ℕ
@@ -30,6 +33,10 @@ vertices l = cond (eqb (l % 2) 0) (l / 2) 0
 
 unfoldable pub outline-answer : Carried → ℕ → LwOutline
 outline-answer c n = record { refusal = c .question; ring = c .ring; first = c .first; second = c .second; value = c .value; count = n }
+
+-- the check alone
+unfoldable pub checked : NewOutline → LwOutline
+checked o = outline-answer (carried (o .refusal)) (o .shape .count)
 
 unfoldable pub outline-told : NewOutline → List Float → Refusal
 outline-told o out = cond (granted (o .refusal)) (ring-write (o .shape .points) (o .shape .count) out) (o .refusal)
@@ -59,7 +66,19 @@ nearest-answer c d p = record { refusal = c .question; first = c .first; distanc
 unfoldable pub told-nearest : Neared → LwNearest
 told-nearest a = nearest-answer (carried (a .refusal)) (a .distance) (a .point)
 
+-- ---- offsets of an outline handed in
+
+unfoldable pub given : List Float → Outline
+given ps = stored-outline ps (vertices (length ps)) false
+
+unfoldable pub offset-answer : Carried → OffsetWritten → LwOffset
+offset-answer c a =
+    record { refusal = c .question; ring = c .ring; first = c .first; second = c .second; value = c .value; count = a .count; collapses = a .collapses; divides = a .divides; joins = a .joins }
+
+unfoldable pub told-offset : OffsetWritten → LwOffset
+told-offset a = offset-answer (carried (a .refusal)) a
+
 -- opens every definition above, for a proof that computes with all of them
 unfoldable pub open-exports : Unit {0}
-unfolding vertices outline-answer outline-told told-outline over-outline place-number place-answer told-place nearest-answer told-nearest
+unfolding vertices outline-answer checked outline-told told-outline over-outline place-number place-answer told-place nearest-answer told-nearest given offset-answer told-offset
 open-exports = tt

@@ -1,14 +1,18 @@
 // Functions for C and for Rust, over numbers and slices. Each is a call of a proved function, with its contract.
 ghost use mathlib.Core.Path.{_≡_};
+ghost use mathlib.Core.Bool.{true, false};
 ghost use lib.ListN.{length};
 ghost use Rattle.hypotenuse.specs.Hypot;
 ghost use Rattle.polygon.specs.Outlines;
+ghost use Rattle.offset.specs.Lent;
 ghost use Rattle.queries.specs.Queries;
 ghost use Rattle.lizardwire_c.specs.Exports;
+use offset::OffsetWritten;
 use plane::Containment;
 use plane::PlanarPoint;
 use polygon::NewOutline;
 use polygon::Outline;
+use polygon::store;
 use queries::Neared;
 use queries::Placed;
 use values::Carried;
@@ -40,6 +44,20 @@ pub struct LwNearest {
     pub distance: f64,
     pub east: f64,
     pub north: f64,
+}
+
+// What an offset answers: the refusal's number and what it carries, the vertices written, and the completed events.
+#[repr(C)]
+pub struct LwOffset {
+    pub refusal: usize,
+    pub ring: usize,
+    pub first: usize,
+    pub second: usize,
+    pub value: f64,
+    pub count: usize,
+    pub collapses: usize,
+    pub divides: usize,
+    pub joins: usize,
 }
 
 // How many vertices so many numbers are; an odd count is none.
@@ -87,6 +105,31 @@ pub fn told_nearest(a: Neared) -> LwNearest
     }
 }
 
+pub fn told_offset(a: OffsetWritten) -> LwOffset
+    ensures { λ r. ⌜ r ≡ Exports.told-offset a ⌝ }
+{
+    let refusal = a.refusal;
+    let c = Carried::new(refusal);
+    LwOffset {
+        refusal: c.question,
+        ring: c.ring,
+        first: c.first,
+        second: c.second,
+        value: c.value,
+        count: a.count,
+        collapses: a.collapses,
+        divides: a.divides,
+        joins: a.joins,
+    }
+}
+
+// The outline of the numbers of a shape handed in, as they are.
+pub fn given(numbers: &[f64]) -> Outline
+    ensures { λ r. ⌜ r ≡ Exports.given (now (numbers .entry)) ⌝ }
+{
+    store::stored_outline(numbers, vertices(numbers.len()), false)
+}
+
 pub fn outline_answer(c: Carried, count: usize) -> LwOutline
     ensures { λ r. ⌜ r ≡ Exports.outline-answer c count ⌝ }
 {
@@ -107,9 +150,8 @@ pub fn told_outline(o: NewOutline, out: &mut [f64]) -> LwOutline
 {
     let refusal = o.refusal;
     if refusal.granted() {
-        let shape = o.shape;
-        let count = shape.count;
-        let r = lent::write_outline(&shape.points, count, out);
+        let count = o.shape.count;
+        let r = lent::write_outline(&o.shape.points, count, out);
         outline_answer(Carried::new(r), ring::choose(r.granted(), count, 0))
     } else {
         outline_answer(Carried::new(refusal), 0)
@@ -122,6 +164,16 @@ pub extern "C" fn lw_hypot(x: f64, y: f64) -> f64
     ensures { λ r. ⌜ r ≡ Hypot.hypot x y ⌝ }
 {
     math::hypot(x, y)
+}
+
+// Whether these numbers are an outline, and of how many vertices: questions 1, 2 and 4 to 9.
+#[no_mangle]
+pub extern "C" fn lw_check(numbers: &[f64]) -> LwOutline
+    ensures { λ r. ⌜ r ≡ Exports.checked (Outlines.outline (now (numbers .entry))) ⌝ }
+{
+    let made = Outline::new(numbers);
+    let refusal = made.refusal;
+    outline_answer(Carried::new(refusal), made.shape.count)
 }
 
 // The outline of these numbers, written to `out`: questions 1, 2 and 4 to 9, then 20.
@@ -155,4 +207,22 @@ pub extern "C" fn lw_nearest(outline: &[f64], east: f64, north: f64) -> LwNeares
         north: north,
     };
     told_nearest(queries::nearest(outline, vertices(outline.len()), p))
+}
+
+// The inset of an outline handed in, written to `out`: 21, 13, 14, what the offset answers, then 20.
+#[no_mangle]
+pub extern "C" fn lw_inset(outline: &[f64], distance: f64, out: &mut [f64]) -> LwOffset
+    ensures answered { λ r. ⌜ r ≡ Exports.told-offset (Lent.offset-write (Exports.given (now (outline .entry))) false distance (now (out .entry))) ⌝ }
+    ensures written { λ _. ⌜ now (out .exit) ≡ Lent.written-offset (Exports.given (now (outline .entry))) false distance (now (out .entry)) ⌝ }
+{
+    told_offset(offsetting::offset_into(given(outline), false, distance, out))
+}
+
+// The outset, likewise.
+#[no_mangle]
+pub extern "C" fn lw_outset(outline: &[f64], distance: f64, out: &mut [f64]) -> LwOffset
+    ensures answered { λ r. ⌜ r ≡ Exports.told-offset (Lent.offset-write (Exports.given (now (outline .entry))) true distance (now (out .entry))) ⌝ }
+    ensures written { λ _. ⌜ now (out .exit) ≡ Lent.written-offset (Exports.given (now (outline .entry))) true distance (now (out .entry)) ⌝ }
+{
+    told_offset(offsetting::offset_into(given(outline), true, distance, out))
 }

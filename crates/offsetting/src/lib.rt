@@ -1,12 +1,15 @@
 // The inset and the outset of an outline.
 ghost use mathlib.Core.Path.{_≡_};
 ghost use mathlib.Core.Bool.{true};
+ghost use Prim.Native.Nat.{_≤_};
 ghost use Rattle.polygon.specs.Outlines;
 ghost use Rattle.offset.specs.Answers;
+ghost use Rattle.offset.specs.Lent;
 ghost use Rattle.offset.specs.Offsets;
 use error::Refusal;
 use front::Sweep;
 use offset::Offset;
+use offset::OffsetWritten;
 use offset::Pieces;
 use polygon::NewOutline;
 use polygon::Outline;
@@ -150,4 +153,38 @@ pub fn outset(o: Outline, d: f64) -> Offset
     ensures bounded { λ r. ⌜ (Outlines.proper 128 (o .points) (o .count) ≡ true → Answers.AnswerDemand (o .count) 1 (r .refusal) (r .collapses) (r .divides) (r .joins)) ⌝ }
 {
     offset(o, true, d)
+}
+
+// An answer's numbers to lent output: 20 is asked last.
+pub(crate) fn write_offset(a: Offset, out: &mut [f64]) -> OffsetWritten
+    requires { ⌜ a .shape .count ≤ 128 ⌝ }
+    ensures answered { λ r. ⌜ r ≡ Lent.offset-told a (Lent.write-offset a (now (out .entry))) ⌝ }
+    ensures written { λ _. ⌜ now (out .exit) ≡ Lent.offset-over a (now (out .entry)) ⌝ }
+{
+    let given = a.refusal;
+    let shape = a.shape;
+    let needed = 2 * shape.count;
+    let asked = error::choose(
+        needed <= out.len(),
+        Refusal::Granted,
+        Refusal::Short(needed),
+    );
+    let r = error::choose(given.granted(), asked, given);
+    let granted = r.granted();
+    lent::write_numbers(&shape.points, ring::choose(granted, needed, 0), out);
+    OffsetWritten {
+        refusal: r,
+        count: ring::choose(granted, shape.count, 0),
+        collapses: a.collapses,
+        divides: a.divides,
+        joins: a.joins,
+    }
+}
+
+// The offset of an outline, its numbers written to lent output. A refused write changes nothing.
+pub fn offset_into(o: Outline, outward: bool, d: f64, out: &mut [f64]) -> OffsetWritten
+    ensures answered { λ r. ⌜ r ≡ Lent.offset-write o outward d (now (out .entry)) ⌝ }
+    ensures written { λ _. ⌜ now (out .exit) ≡ Lent.written-offset o outward d (now (out .entry)) ⌝ }
+{
+    write_offset(offset(o, outward, d), out)
 }

@@ -8,7 +8,7 @@ use polygon::Outline;
 use values::Carried;
 
 // What a refusal carries is in the first five fields.
-fn carried_is(answer: &[u64], r: Refusal) -> bool {
+pub(crate) fn carried_is(answer: &[u64], r: Refusal) -> bool {
     let c = Carried::new(r);
     parts::whole_is(answer, 0, c.question)
         & parts::whole_is(answer, 1, c.ring)
@@ -18,7 +18,7 @@ fn carried_is(answer: &[u64], r: Refusal) -> bool {
 }
 
 // The stored vertices are in the fields from the sixth on.
-fn shape_is(answer: &[u64], o: Outline) -> bool {
+pub(crate) fn shape_is(answer: &[u64], o: Outline) -> bool {
     let points = o.points;
     let count = o.count;
     let stored = parts::fields_from(answer, 6, answer.len());

@@ -2,6 +2,7 @@
 use crate::field::ROOM;
 use crate::field::Scan;
 use crate::kinds;
+use crate::offsets;
 use crate::parts;
 use crate::shapes;
 use crate::tally::Tally;
@@ -64,6 +65,7 @@ fn answered<'a>(kind: u64, answer: &'a [u64], words: &'a [u64], numbers: &'a [f6
         5 => shapes::edge(answer, words, numbers),
         6 => kinds::point(answer, numbers),
         7 => kinds::area(answer, numbers),
+        8 => offsets::offset(answer, words, numbers),
         _ => false,
     }
 }
@@ -72,7 +74,7 @@ fn answered<'a>(kind: u64, answer: &'a [u64], words: &'a [u64], numbers: &'a [f6
 fn take_fields<'a>(t: Tally, fields: &'a [u64], numbers: &'a [f64], count: usize) -> Tally {
     let kind = parts::field_at(fields, 0);
     let given = parts::field_at(fields, 1) as usize;
-    if 7 < kind {
+    if 8 < kind {
         return t.with(UNREAD, false);
     }
     if ROOM < given {

@@ -4,6 +4,7 @@
 mod field;
 mod kinds;
 mod line;
+mod offsets;
 mod parts;
 mod shapes;
 mod tally;

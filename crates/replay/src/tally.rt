@@ -1,11 +1,11 @@
 // How many lines were compared and how many differ, by kind.
 
-// The place of lines that cannot be read, after the eight kinds.
-pub(crate) const UNREAD: usize = 8;
+// The place of lines that cannot be read, after the nine kinds.
+pub(crate) const UNREAD: usize = 9;
 
 pub(crate) struct Tally {
-    pub compared: [u64; 9],
-    pub differ: [u64; 9],
+    pub compared: [u64; 10],
+    pub differ: [u64; 10],
 }
 
 fn one_more(n: u64) -> u64 {
@@ -16,15 +16,15 @@ fn sum(a: u64, b: u64) -> u64 {
     if a <= u64::MAX - b { a + b } else { u64::MAX }
 }
 
-fn at(counts: [u64; 9], k: usize) -> u64 {
-    if k < 9 { counts[k] } else { 0 }
+fn at(counts: [u64; 10], k: usize) -> u64 {
+    if k < 10 { counts[k] } else { 0 }
 }
 
 impl Tally {
     pub(crate) fn new() -> Tally {
         Tally {
-            compared: [0; 9],
-            differ: [0; 9],
+            compared: [0; 10],
+            differ: [0; 10],
         }
     }
 
@@ -32,7 +32,7 @@ impl Tally {
     pub(crate) fn with(self, kind: usize, same: bool) -> Tally {
         let mut compared = self.compared;
         let mut differ = self.differ;
-        if kind < 9 {
+        if kind < 10 {
             compared[kind] = one_more(compared[kind]);
             if !same {
                 differ[kind] = one_more(differ[kind]);
@@ -50,7 +50,7 @@ impl Tally {
         let mut all = 0;
         let mut wrong = 0;
         let mut k = 0;
-        while k < 9 {
+        while k < 10 {
             let here = at(compared, k);
             let bad = at(differ, k);
             print_row(k, here, bad);
@@ -58,7 +58,7 @@ impl Tally {
             wrong = sum(wrong, bad);
             k += 1;
         }
-        print_row(9, all, wrong);
+        print_row(10, all, wrong);
     }
 }
 
@@ -72,7 +72,8 @@ fn print_name(kind: usize) {
         5 => io::write_all(1, &[b'e', b'd', b'g', b'e']),
         6 => io::write_all(1, &[b'p', b'o', b'i', b'n', b't']),
         7 => io::write_all(1, &[b'a', b'r', b'e', b'a']),
-        8 => io::write_all(1, &[b'u', b'n', b'r', b'e', b'a', b'd']),
+        8 => io::write_all(1, &[b'o', b'f', b'f', b's', b'e', b't']),
+        9 => io::write_all(1, &[b'u', b'n', b'r', b'e', b'a', b'd']),
         _ => io::write_all(1, &[b't', b'o', b't', b'a', b'l']),
     }
     ;

@@ -5,6 +5,7 @@ use mathlib.Core.Bool.{Bool, true, false, not, _||_}
 use mathlib.Core.List.{List}
 use mathlib.Core.Path.{_≡_, refl, sym, ap, _∙_}
 use lib.Dec.{eqb}
+use lib.ListN.{set, length, length-set}
 use Rattle.loops.specs.Loop.{rounds}
 use Rattle.loops.proofs.Laws.{next-round, stays-to}
 use Rattle.front.specs.declared.Edge.{Edge}
@@ -47,6 +48,9 @@ drop-all slot start f at k e h =
     sym (ap (λ (s : Drop). s .edges) (ap (λ (m : ℕ). rounds (drop-step slot) m (drop-at start slot false)) (sym e) ∙ h))
 
 -- ---- a spike
+
+pub three-long : (f : List Edge) (i j k : ℕ) (x y z : Edge) → length f ≡ 128 → length (set (set (set f i x) j y) k z) ≡ 128
+three-long f i j k x y z l = length-set (set (set f i x) j y) k z ∙ length-set (set f i x) j y ∙ length-set f i x ∙ l
 
 pub both-is :
     (f g h m : List Edge) (slot next after : ℕ) (start : PlanarPoint) (t : Float) (r : Front) → g ≡ remove f next → h ≡ remove g slot →

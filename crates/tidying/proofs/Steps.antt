@@ -1,12 +1,12 @@
 -- One step of tidying, and the steps one after the other. Assumes nothing.
-use Prim.Native.Nat.{ℕ, _+_, _<_, _≤_}
+use Prim.Native.Nat.{ℕ, _+_, _<_}
 use native.Mathlib.Omega.{arith}
-use mathlib.Core.Bool.{Bool, true, false, cond, not, _&&_}
+use mathlib.Core.Bool.{Bool, true, false, cond, not, _&&_, true≢false}
 use mathlib.Core.List.{List}
 use mathlib.Core.Path.{_≡_, refl, sym, ap, _∙_}
 use lib.Ieee.{Float}
 use Rattle.loops.specs.Loop.{rounds}
-use Rattle.loops.proofs.Laws.{next-round, stays-to, steady, still}
+use Rattle.loops.proofs.Laws.{next-round, stays-to}
 use Rattle.front.specs.declared.Edge.{Edge}
 use Rattle.front.specs.declared.Front.{Front}
 use Rattle.front.specs.declared.Tidy.{Tidy}
@@ -47,32 +47,39 @@ once-is f t found r h i = rw (i, h) refl
 
 -- ---- the steps
 
-module _ (t : Float) (s at : Front) (k : ℕ) (so-far : rounds (tidy-step t) k s ≡ at) where
-  pub steps-end : k ≤ 128 → (at .changed && not (at .stalled)) ≡ false → at ≡ rounds (tidy-step t) 128 s
-  unfolding tidy-step
-  steps-end l h = sym (stays-to (tidy-step t) s at k 128 l so-far (λ m. ap (λ (b : Bool). cond b (tidy-once (at .edges) t) at) h))
+abbrev front : List Edge → Bool → Bool → Front
+front f a b = record { edges = f; stalled = a; changed = b }
 
-  pub steps-on : (r : Front) → (at .changed && not (at .stalled)) ≡ true → r ≡ tidy-once (at .edges) t → rounds (tidy-step t) (k + 1) s ≡ r
-  unfolding tidy-step
-  steps-on r h i =
-      next-round (tidy-step t) k s ∙ ap (tidy-step t k) so-far ∙ ap (λ (b : Bool). cond b (tidy-once (at .edges) t) at) h ∙ sym i
+-- a front that goes on is altered and not stalled
+goes-altered : (s : Front) → (s .changed && not (s .stalled)) ≡ true → s ≡ altered (s .edges)
+unfolding altered
+goes-altered s = go (s .stalled) (s .changed)
+  where
+    go : (a b : Bool) → (b && not a) ≡ true → front (s .edges) a b ≡ front (s .edges) false true
+    go false true h = refl
+    go true true h = absurd (true≢false (sym h))
+    go a false h = absurd (true≢false (sym h))
 
-  pub steps-all : k ≡ 128 → at ≡ rounds (tidy-step t) 128 s
-  steps-all e = sym so-far ∙ ap (λ (m : ℕ). rounds (tidy-step t) m s) e
+module _ (start f : List Edge) (t : Float) (k : ℕ) (found : Tidy) (so-far : rounds (tidy-step t) k (altered start) ≡ altered f) (found-is : found ≡ find-tidy f t) where
+  one-more : rounds (tidy-step t) (k + 1) (altered start) ≡ tidy-by f t found
+  unfolding tidy-step tidy-once altered
+  one-more = next-round (tidy-step t) k (altered start) ∙ ap (tidy-step t k) so-far ∙ ap (tidy-by f t) (sym found-is)
 
--- the first step by itself
-first-step : (f : List Edge) (t : Float) → tidy f t ≡ rounds (tidy-step t) 128 (tidy-once f t)
-unfolding tidy tidy-step altered
-first-step f t = steady (tidy-step t) (λ k m s. refl) 128 (altered f)
+  stops : (s : Front) → k < 129 → rounds (tidy-step t) (k + 1) (altered start) ≡ s → (s .changed && not (s .stalled)) ≡ false → s ≡ tidy start t
+  unfolding tidy tidy-step
+  stops s l e h =
+      sym (stays-to (tidy-step t) (altered start) s (k + 1) 129 (omega arith) e (λ m. ap (λ (b : Bool). cond b (tidy-once (s .edges) t) s) h))
 
-pub tidy-none : (f : List Edge) (t : Float) (found : Tidy) → found ≡ find-tidy f t → found ≡ Settled → unchanged f ≡ tidy f t
-unfolding tidy-once tidy-by tidy-step
-tidy-none f t found h i =
-    sym
-    (first-step f t ∙ ap (λ (x : Tidy). rounds (tidy-step t) 128 (tidy-by f t x)) (sym h ∙ i)
-    ∙ still (tidy-step t) (unchanged f) (λ m. refl) 128)
+  pub tidy-none : k < 129 → found ≡ Settled → unchanged f ≡ tidy start t
+  tidy-none l h = stops (unchanged f) l (one-more ∙ sym (by-none f t found h)) refl
 
-pub tidy-more :
-    (f : List Edge) (t : Float) (found : Tidy) (r : Front) → found ≡ find-tidy f t → r ≡ rounds (tidy-step t) 128 (tidy-by f t found) → r ≡ tidy f t
-unfolding tidy-once
-tidy-more f t found r h i = i ∙ ap (λ (x : Tidy). rounds (tidy-step t) 128 (tidy-by f t x)) h ∙ sym (first-step f t)
+  module _ (s : Front) (s-is : s ≡ tidy-by f t found) where
+    pub tidy-ends : k < 129 → (s .changed && not (s .stalled)) ≡ false → s ≡ tidy start t
+    tidy-ends l h = stops s l (one-more ∙ sym s-is) h
+
+    pub tidy-goes : (s .changed && not (s .stalled)) ≡ true → rounds (tidy-step t) (k + 1) (altered start) ≡ altered (s .edges)
+    tidy-goes h = one-more ∙ sym s-is ∙ goes-altered s h
+
+pub tidy-all : (start f : List Edge) (t : Float) (k : ℕ) → rounds (tidy-step t) k (altered start) ≡ altered f → k ≡ 129 → altered f ≡ tidy start t
+unfolding tidy
+tidy-all start f t k so-far e = sym so-far ∙ ap (λ (m : ℕ). rounds (tidy-step t) m (altered start)) e

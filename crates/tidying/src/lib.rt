@@ -1,7 +1,6 @@
 // Tidying: rings too small, straight vertices, spikes and edges of no length are taken out of the front, one after the other.
 ghost use mathlib.Core.Path.{_≡_};
 ghost use Rattle.front.specs.Tidying;
-ghost use Rattle.loops.specs.Loop.{rounds};
 ghost use Rattle.tidying.specs.Findings;
 use front::Edge;
 use front::Front;
@@ -178,9 +177,39 @@ pub fn drop_both(
 ) -> Front
     ensures { λ r. ⌜ r ≡ Tidying.drop-both edges slot next after start t ⌝ }
 {
-    let second = edges::remove(edges, next);
-    let first = edges::remove(second, slot);
-    edges::altered(edges::set_start(first, after, start, t))
+    let mut f = edges;
+    let second = lines::edge_or(next < 128, f[edges::within(next)]);
+    let back = second.previous;
+    let on = second.next;
+    let i = edges::within(back);
+    let x = f[i];
+    f[i] = edges::next_if(back < 128, x, on);
+    let j = edges::within(on);
+    let y = f[j];
+    f[j] = edges::previous_if(on < 128, y, back);
+    let k = edges::within(next);
+    let z = f[k];
+    f[k] = edges::dead_if(next < 128, z);
+    let first = lines::edge_or(slot < 128, f[edges::within(slot)]);
+    let before = first.previous;
+    let behind = first.next;
+    let l = edges::within(before);
+    let u = f[l];
+    f[l] = edges::next_if(before < 128, u, behind);
+    let m = edges::within(behind);
+    let v = f[m];
+    f[m] = edges::previous_if(behind < 128, v, before);
+    let n = edges::within(slot);
+    let w = f[n];
+    f[n] = edges::dead_if(slot < 128, w);
+    let o = edges::within(after);
+    let anchored = f[o];
+    f[o] = edges::start_if(after < 128, anchored, start, t);
+    Front {
+        edges: f,
+        stalled: false,
+        changed: true,
+    }
 }
 
 pub fn spike_to(
@@ -198,8 +227,8 @@ pub fn spike_to(
     match to {
         Vertex::NoVertex => edges::stalled(edges),
         Vertex::Moving(q, _) => {
-            let a = edges::edge_at(edges, before);
-            let b = edges::edge_at(edges, after);
+            let a = lines::edge_or(before < 128, edges[edges::within(before)]);
+            let b = lines::edge_or(after < 128, edges[edges::within(after)]);
             let place = lines::meeting(a.line, b.line, t);
             drop_both(edges, slot, next, after, meeting_or(p, q, place), t)
         }
@@ -209,8 +238,8 @@ pub fn spike_to(
 pub fn drop_spike(edges: [Edge; 128], slot: usize, next: usize, t: f64) -> Front
     ensures { λ r. ⌜ r ≡ Tidying.drop-spike edges slot next t ⌝ }
 {
-    let e = edges::edge_at(edges, slot);
-    let n = edges::edge_at(edges, next);
+    let e = lines::edge_or(slot < 128, edges[edges::within(slot)]);
+    let n = lines::edge_or(next < 128, edges[edges::within(next)]);
     let from = edges::vertex(edges, slot, t);
     match from {
         Vertex::NoVertex => edges::stalled(edges),
@@ -233,11 +262,11 @@ pub fn tidy_by(edges: [Edge; 128], t: f64, found: Tidy) -> Front
         },
         Tidy::SmallRing(slot) => edges::altered(drop_ring(edges, slot)),
         Tidy::Straight(slot) => {
-            let e = edges::edge_at(edges, slot);
+            let e = lines::edge_or(slot < 128, edges[edges::within(slot)]);
             drop_straight(edges, e.next, t)
         }
         Tidy::Spike(slot) => {
-            let e = edges::edge_at(edges, slot);
+            let e = lines::edge_or(slot < 128, edges[edges::within(slot)]);
             drop_spike(edges, slot, e.next, t)
         }
         Tidy::Empty(slot) => edges::collapse(edges, slot, t),
@@ -250,43 +279,32 @@ pub fn tidy_once(edges: [Edge; 128], t: f64) -> Front
     tidy_by(edges, t, find_tidy(edges, t))
 }
 
-// 128 steps more, until one changes nothing or meets a vertex without a velocity.
-pub fn tidy_on(s: Front, t: f64) -> Front
-    ensures { λ r. ⌜ r ≡ rounds (Tidying.tidy-step t) 128 s ⌝ }
-{
-    let mut at = s;
-    let mut k = 0usize;
-    while k < 128 {
-        k += 1;
-        if !(at.changed & !at.stalled) {
-            return at;
-        }
-        let f = at.edges;
-        let then = tidy_once(f, t);
-        at = then;
-    }
-    at
-}
-
-// What was found is taken out, and then what is found after it: 129 steps in all.
-pub fn tidy_from(edges: [Edge; 128], t: f64, found: Tidy) -> Front
-    ensures { λ r. ⌜ r ≡ rounds (Tidying.tidy-step t) 128 (Tidying.tidy-by edges t found) ⌝ }
-{
-    tidy_on(tidy_by(edges, t, found), t)
-}
-
-// 129 steps at most. Mostly the first finds nothing, and a caller that sees that by `find_tidy` and `settled` need not pass the array here.
+// 129 steps at most, until one changes nothing or meets a vertex without a velocity.
 pub fn tidy(edges: [Edge; 128], t: f64) -> Front
     ensures { λ r. ⌜ r ≡ Tidying.tidy edges t ⌝ }
 {
-    let found = find_tidy(edges, t);
-    if settled(found) {
-        Front {
-            edges,
-            stalled: false,
-            changed: false,
+    let mut f = edges;
+    let mut k = 0usize;
+    while k < 129 {
+        k += 1;
+        let found = find_tidy(f, t);
+        if settled(found) {
+            return Front {
+                edges: f,
+                stalled: false,
+                changed: false,
+            };
         }
-    } else {
-        tidy_from(edges, t, found)
+        let s = tidy_by(f, t, found);
+        if !(s.changed & !s.stalled) {
+            return s;
+        }
+        let g = s.edges;
+        f = g;
+    }
+    Front {
+        edges: f,
+        stalled: false,
+        changed: true,
     }
 }

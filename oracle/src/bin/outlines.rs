@@ -1,26 +1,28 @@
 //! Questions about outlines from a seed, each with the reference's answer.
 //!
-//! `outlines SEED COUNT [--tally]`
+//! `outlines SEED COUNT [--offsets] [--tally]`
 
 use std::io::{self, BufWriter, Write};
 use std::process::ExitCode;
 
-use oracle::generate::question;
+use oracle::generate::{offset, question};
 use oracle::outlines::Tally;
 
-const USAGE: &str = "usage: outlines SEED COUNT [--tally]";
+const USAGE: &str = "usage: outlines SEED COUNT [--offsets] [--tally]";
 
 struct Load {
     seed: u64,
     count: u64,
+    offsets: bool,
     tally: bool,
 }
 
 fn load() -> Option<Load> {
     let mut numbers = Vec::new();
-    let mut tally = false;
+    let (mut offsets, mut tally) = (false, false);
     for word in std::env::args().skip(1) {
         match word.as_str() {
+            "--offsets" => offsets = true,
             "--tally" => tally = true,
             _ => numbers.push(word.parse().ok()?),
         }
@@ -28,14 +30,23 @@ fn load() -> Option<Load> {
     let [seed, count] = numbers[..] else {
         return None;
     };
-    Some(Load { seed, count, tally })
+    Some(Load {
+        seed,
+        count,
+        offsets,
+        tally,
+    })
 }
 
 fn run(load: &Load) -> io::Result<()> {
     let mut output = BufWriter::with_capacity(1 << 16, io::stdout().lock());
     let mut tally = Tally::default();
     for index in 0..load.count {
-        let question = question(load.seed, index);
+        let question = if load.offsets {
+            offset(load.seed, index)
+        } else {
+            question(load.seed, index)
+        };
         if load.tally {
             tally.add(&question);
         } else {

@@ -3,12 +3,14 @@
 mod broken;
 mod door;
 mod known;
+mod offsets;
 mod outlines;
 mod questions;
 mod rare;
 mod regions;
 mod shape;
 
+pub use offsets::offset;
 pub use questions::question;
 
 use crate::draw::Draw;
@@ -100,6 +102,11 @@ pub fn names() -> impl Iterator<Item = &'static str> {
 pub fn line(seed: u64, index: u64, small: bool, only: Option<&str>) -> Option<Vec<u8>> {
     let mut start = Draw::new(seed);
     let mut draw = Draw::new(start.bits() ^ index.wrapping_mul(0xd134_2543_de82_ef95));
+    drawn_line(&mut draw, small, only)
+}
+
+/// A line of one family, or of the load.
+fn drawn_line(draw: &mut Draw, small: bool, only: Option<&str>) -> Option<Vec<u8>> {
     let weight = |family: &Family| {
         let often = if small { family.small } else { family.often };
         match only {
@@ -119,7 +126,7 @@ pub fn line(seed: u64, index: u64, small: bool, only: Option<&str>) -> Option<Ve
             place = place.saturating_sub(weight(family));
             here
         })?;
-        let line = (family.draw)(&mut draw, most);
+        let line = (family.draw)(draw, most);
         let fits = match Job::read(&line) {
             Some(job) => job.numbers.len() <= 2 * SMALL + 1,
             None => line.len() <= SHORT,

@@ -315,14 +315,18 @@ fn sound(draw: &mut Draw) -> Vec<f64> {
             6 => full_or_small(draw),
             _ => of_load(draw),
         };
-        let Ok(outline) = new_outline(&numbers) else {
-            continue;
-        };
-        let stored = numbers_of(&outline);
-        if new_outline(&stored).is_ok_and(|again| numbers_of(&again) == stored) {
+        if let Some(stored) = stored(&numbers) {
             return stored;
         }
     }
+}
+
+/// The numbers of the outline that the reference makes of these, where it
+/// makes the same of them again.
+pub(super) fn stored(numbers: &[f64]) -> Option<Vec<f64>> {
+    let stored = numbers_of(&new_outline(numbers).ok()?);
+    let again = numbers_of(&new_outline(&stored).ok()?);
+    (again == stored).then_some(stored)
 }
 
 /// A full ring now and then.
@@ -335,7 +339,7 @@ fn full_or_small(draw: &mut Draw) -> Vec<f64> {
     }
 }
 
-fn shape_of(numbers: Vec<f64>) -> Shape {
+pub(super) fn shape_of(numbers: Vec<f64>) -> Shape {
     Shape {
         count: numbers.len() as u64 / 2,
         numbers,
@@ -343,7 +347,7 @@ fn shape_of(numbers: Vec<f64>) -> Shape {
 }
 
 /// A shape that question 21 refuses.
-fn improper(draw: &mut Draw) -> Shape {
+pub(super) fn improper(draw: &mut Draw) -> Shape {
     let mut shape = shape_of(sound(draw));
     while shape.count > 24 {
         shape = shape_of(sound(draw));
@@ -503,11 +507,8 @@ fn second(draw: &mut Draw, first: &Shape) -> Shape {
             _ => {}
         }
         let numbers = flat_numbers(&rings[0]);
-        if let Ok(outline) = new_outline(&numbers) {
-            let stored = numbers_of(&outline);
-            if new_outline(&stored).is_ok_and(|again| numbers_of(&again) == stored) {
-                return shape_of(stored);
-            }
+        if let Some(stored) = stored(&numbers) {
+            return shape_of(stored);
         }
     }
     shape_of(sound(draw))

@@ -1,7 +1,9 @@
 -- `edges::collapse` meets its contract. Assumes nothing.
+use Rattle.front.specs.declared.Edge.{Edge}
 use Rattle.front.specs.Edges.{altered, stalled}
-use mathlib.Core.Path.{_∙_}
-use lib.ListN.{set, length-set}
+use mathlib.Core.Path.{_≡_, _∙_}
+use mathlib.Core.List.{List}
+use lib.ListN.{set, length, length-set}
 use Rattle.edges.proofs.Actions.{slot-read, slot-start, removed, collapse-none, collapse-some}
 use borrow.Author.Needs.{needs}
 use Rattle.edges.proofs.collapse.Statement.{statement}
@@ -140,9 +142,26 @@ returns : tie.Need-returns
 unfolding stalled
 returns c = collapse-none _ _ _ _ _ _ _ (slot-read _ _ _ _ (c .before .before .before .before .before .before .before .before .before .before .before .within .ensures .0) (c .before .before .before .before .before .before .before .before .before .edge-or .ensures)) (slot-read _ _ _ _ (c .before .before .before .before .before .before .before .before .within2 .ensures .0) (c .before .before .before .before .before .before .edge-or2 .ensures)) (slot-read _ _ _ _ (c .before .before .before .before .before .within3 .ensures .0) (c .before .before .before .edge-or3 .ensures)) (c .before .before .vertex-by .ensures) (c .enum-told .given .1)
 
+-- the front as it is given, and with the successor's start
+module _ (c : tie.After-start-if) where
+  abbrev given : List Edge
+  given = c .before .before .before .before .before .before .before .before .before .before .before .before .before .before .before .before .args .edges
+
+  abbrev long : length given ≡ 128
+  long = c .before .before .before .before .before .before .before .before .before .before .before .before .before .before .before .before .good .0 .1 .0 .1
+
+  abbrev anchored : List Edge
+  anchored = set given (c .before .before .within4 .result) (c .start-if .result)
+
+  anchored-long : length anchored ≡ 128
+  anchored-long = length-set given (c .before .before .within4 .result) (c .start-if .result) ∙ long
+
 returns-2 : tie.Need-returns-2
 unfolding altered
-returns-2 c = collapse-some (c .before .before .before .before .before .before .before .before .before .before .before .before .before .before .before .before .before .before .before .before .before .before .before .before .before .before .before .before .args .edges) (set (c .before .before .before .before .before .before .before .before .before .before .before .before .before .before .before .before .before .before .before .before .before .before .before .before .before .before .before .before .args .edges) (c .before .before .before .before .before .before .before .before .before .before .before .before .before .before .within4 .result) (c .before .before .before .before .before .before .before .before .before .before .before .before .start-if .result)) _ _ _ _ _ _ _ _ _ (slot-read _ _ _ _ (c .before .before .before .before .before .before .before .before .before .before .before .before .before .before .before .before .before .before .before .before .before .before .before .before .before .before .before .within .ensures .0) (c .before .before .before .before .before .before .before .before .before .before .before .before .before .before .before .before .before .before .before .before .before .before .before .before .before .edge-or .ensures)) (slot-read _ _ _ _ (c .before .before .before .before .before .before .before .before .before .before .before .before .before .before .before .before .before .before .before .before .before .before .before .before .within2 .ensures .0) (c .before .before .before .before .before .before .before .before .before .before .before .before .before .before .before .before .before .before .before .before .before .before .edge-or2 .ensures)) (slot-read _ _ _ _ (c .before .before .before .before .before .before .before .before .before .before .before .before .before .before .before .before .before .before .before .before .before .within3 .ensures .0) (c .before .before .before .before .before .before .before .before .before .before .before .before .before .before .before .before .before .before .before .edge-or3 .ensures)) (c .before .before .before .before .before .before .before .before .before .before .before .before .before .before .before .before .before .before .vertex-by .ensures) (c .before .before .before .before .before .before .before .before .before .before .before .before .before .before .before .before .v .given .1) (slot-start _ _ _ _ (c .before .before .before .before .before .before .before .before .before .before .before .before .before .before .before .before .before .before .before .before .before .before .before .before .before .before .before .before .good .0 .1 .0 .1) (c .before .before .before .before .before .before .before .before .before .before .before .before .before .before .within4 .ensures .0) _ _ (c .before .before .before .before .before .before .before .before .before .before .before .before .start-if .ensures)) (removed (set (c .before .before .before .before .before .before .before .before .before .before .before .before .before .before .before .before .before .before .before .before .before .before .before .before .before .before .before .before .args .edges) (c .before .before .before .before .before .before .before .before .before .before .before .before .before .before .within4 .result) (c .before .before .before .before .before .before .before .before .before .before .before .before .start-if .result)) (length-set (c .before .before .before .before .before .before .before .before .before .before .before .before .before .before .before .before .before .before .before .before .before .before .before .before .before .before .before .before .args .edges) (c .before .before .before .before .before .before .before .before .before .before .before .before .before .before .within4 .result) (c .before .before .before .before .before .before .before .before .before .before .before .before .start-if .result) ∙ c .before .before .before .before .before .before .before .before .before .before .before .before .before .before .before .before .before .before .before .before .before .before .before .before .before .before .before .before .good .0 .1 .0 .1) _ _ _ _ _ _ _ _ (slot-read _ _ _ _ (c .before .before .before .before .before .before .before .before .before .before .before .within5 .ensures .0) (c .before .before .before .before .before .before .before .before .before .edge-or4 .ensures)) (c .before .before .before .before .before .before .before .before .within6 .ensures .0) (c .before .before .before .before .before .before .next-if .ensures) (c .before .before .before .before .before .within7 .ensures .0) (c .before .before .before .previous-if .ensures) (c .before .before .within8 .ensures .0) (c .dead-if .ensures))
+returns-2 c =
+    collapse-some (given (c .before .before .before .before .before .before .before .before .before .before .before .before)) (anchored (c .before .before .before .before .before .before .before .before .before .before .before .before)) _ _ _ _ _ _ _ _ _ (slot-read _ _ _ _ (c .before .before .before .before .before .before .before .before .before .before .before .before .before .before .before .before .before .before .before .before .before .before .before .before .before .before .before .within .ensures .0) (c .before .before .before .before .before .before .before .before .before .before .before .before .before .before .before .before .before .before .before .before .before .before .before .before .before .edge-or .ensures)) (slot-read _ _ _ _ (c .before .before .before .before .before .before .before .before .before .before .before .before .before .before .before .before .before .before .before .before .before .before .before .before .within2 .ensures .0) (c .before .before .before .before .before .before .before .before .before .before .before .before .before .before .before .before .before .before .before .before .before .before .edge-or2 .ensures)) (slot-read _ _ _ _ (c .before .before .before .before .before .before .before .before .before .before .before .before .before .before .before .before .before .before .before .before .before .within3 .ensures .0) (c .before .before .before .before .before .before .before .before .before .before .before .before .before .before .before .before .before .before .before .edge-or3 .ensures)) (c .before .before .before .before .before .before .before .before .before .before .before .before .before .before .before .before .before .before .vertex-by .ensures) (c .before .before .before .before .before .before .before .before .before .before .before .before .before .before .before .before .v .given .1)
+    (slot-start _ _ _ _ (long (c .before .before .before .before .before .before .before .before .before .before .before .before)) (c .before .before .before .before .before .before .before .before .before .before .before .before .before .before .within4 .ensures .0) _ _ (c .before .before .before .before .before .before .before .before .before .before .before .before .start-if .ensures))
+    (removed (anchored (c .before .before .before .before .before .before .before .before .before .before .before .before)) (anchored-long (c .before .before .before .before .before .before .before .before .before .before .before .before)) _ _ _ _ _ _ _ _ (slot-read _ _ _ _ (c .before .before .before .before .before .before .before .before .before .before .before .within5 .ensures .0) (c .before .before .before .before .before .before .before .before .before .edge-or4 .ensures)) (c .before .before .before .before .before .before .before .before .within6 .ensures .0) (c .before .before .before .before .before .before .next-if .ensures) (c .before .before .before .before .before .within7 .ensures .0) (c .before .before .before .previous-if .ensures) (c .before .before .within8 .ensures .0) (c .dead-if .ensures))
 
 pub collapse-spec : {M : Type 1} → statement M
 collapse-spec =

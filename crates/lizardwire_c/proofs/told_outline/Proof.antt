@@ -33,7 +33,7 @@ same-length : tie.Need-same-length
 same-length c = search needs
 
 returns : tie.Need-returns
-returns c = told-yes _ _ _ _ _ _ _ _ (sym (c .before .before .before .before .before .before .before .before .before .before .before .before .before .granted .ensures) ∙ c .before .before .before .before .before .before .before .before .before .before .before .before .if1 .taken) (c .before .before .before .before .before .before .write-outline .ensures .0) (c .before .before .before .before .before .before .write-outline .ensures .1) (c .before .before .before .new .ensures) (c .before .before .granted2 .ensures) (c .before .choose .ensures) (c .outline-answer .ensures)
+returns c = told-yes _ _ _ _ _ _ _ _ (sym (c .before .before .before .before .before .before .before .before .before .before .before .before .granted .ensures) ∙ c .before .before .before .before .before .before .before .before .before .before .before .if1 .taken) (c .before .before .before .before .before .before .write-outline .ensures .0) (c .before .before .before .before .before .before .write-outline .ensures .1) (c .before .before .before .new .ensures) (c .before .before .granted2 .ensures) (c .before .choose .ensures) (c .outline-answer .ensures)
 
 returns-2 : tie.Need-returns-2
 returns-2 c = told-no _ _ _ _ (sym (c .before .before .before .granted .ensures) ∙ c .before .before .if1 .left) (c .before .new2 .ensures) (c .outline-answer2 .ensures)

@@ -64,10 +64,10 @@ returns : tie.Need-returns Inv-loop μ-loop
 returns c = drop-ends _ _ _ _ _ _ _ _ (c .before .before .before .before .before .before .before .before .before .before .loop .inv .2) (ap (λ (e : Edge). e .next) (slot-read _ _ _ _ (c .before .before .before .before .before .before .before .before .within .ensures .0) (c .before .before .before .before .before .before .edge-or .ensures))) (slot-kill _ _ _ _ (c .before .before .before .before .before .before .before .before .before .before .loop .inv .1) (c .before .before .before .before .before .before .before .before .within .ensures .0) (c .before .before .before .before .before .dead-if .ensures)) (slot-read _ _ _ _ (c .before .before .before .before .within2 .ensures .0) (c .before .before .edge-or2 .ensures)) (c .before .before .before .before .before .before .before .before .before .loop-test .taken) (c .if1 .taken)
 
 loop-less : tie.Need-loop-less Inv-loop μ-loop
-loop-less c = turn-less _ (c .before .before .before .before .before .before .before .before .before .loop-test .taken)
+loop-less c = turn-less _ _ (c .before .before .before .before .before .before .before .before .before .loop-test .taken)
 
 loop-again : tie.Need-loop-again Inv-loop μ-loop
-loop-again c = (turn-in _ (c .before .before .before .before .before .before .before .before .before .loop-test .taken), length-set (c .before .before .before .before .before .before .before .before .before .before .loop .f) (c .before .before .before .before .before .before .before .before .within .result) (c .before .before .before .before .before .dead-if .result) ∙ c .before .before .before .before .before .before .before .before .before .before .loop .inv .1, drop-goes _ _ _ _ _ _ _ _ (c .before .before .before .before .before .before .before .before .before .before .loop .inv .2) (ap (λ (e : Edge). e .next) (slot-read _ _ _ _ (c .before .before .before .before .before .before .before .before .within .ensures .0) (c .before .before .before .before .before .before .edge-or .ensures))) (slot-kill _ _ _ _ (c .before .before .before .before .before .before .before .before .before .before .loop .inv .1) (c .before .before .before .before .before .before .before .before .within .ensures .0) (c .before .before .before .before .before .dead-if .ensures)) (slot-read _ _ _ _ (c .before .before .before .before .within2 .ensures .0) (c .before .before .edge-or2 .ensures)) (c .if1 .left))
+loop-again c = (turn-in _ _ (c .before .before .before .before .before .before .before .before .before .loop-test .taken), length-set (c .before .before .before .before .before .before .before .before .before .before .loop .f) (c .before .before .before .before .before .before .before .before .within .result) (c .before .before .before .before .before .dead-if .result) ∙ c .before .before .before .before .before .before .before .before .before .before .loop .inv .1, drop-goes _ _ _ _ _ _ _ _ (c .before .before .before .before .before .before .before .before .before .before .loop .inv .2) (ap (λ (e : Edge). e .next) (slot-read _ _ _ _ (c .before .before .before .before .before .before .before .before .within .ensures .0) (c .before .before .before .before .before .before .edge-or .ensures))) (slot-kill _ _ _ _ (c .before .before .before .before .before .before .before .before .before .before .loop .inv .1) (c .before .before .before .before .before .before .before .before .within .ensures .0) (c .before .before .before .before .before .dead-if .ensures)) (slot-read _ _ _ _ (c .before .before .before .before .within2 .ensures .0) (c .before .before .edge-or2 .ensures)) (c .if1 .left))
 
 returns-2 : tie.Need-returns-2 Inv-loop μ-loop
 returns-2 c = drop-all _ _ _ _ _ (omega arith) (c .before .loop .inv .2)

@@ -79,10 +79,10 @@ returns : tie.Need-returns Inv-loop μ-loop
 returns c = find-ends _ _ _ _ (c .before .before .before .before .before .before .before .before .before .before .before .before .before .before .before .loop .inv .1) (sym (edge-in _ _ (c .before .before .before .before .before .before .before .before .before .before .before .before .before .before .loop-test .taken))) _ _ _ _ (c .before .before .before .before .before .before .before .before .before .before .before .before .if1 .taken) (slot-read _ _ _ _ (c .before .before .before .before .before .before .before .before .before .before .before .within .ensures .0) (c .before .before .before .before .before .before .before .before .before .edge-or .ensures)) (slot-read _ _ _ _ (c .before .before .before .before .before .before .before .before .within2 .ensures .0) (c .before .before .before .before .before .before .edge-or2 .ensures)) (slot-read _ _ _ _ (c .before .before .before .before .before .within3 .ensures .0) (c .before .before .before .edge-or3 .ensures)) (c .before .before .tidy-between .ensures) (c .before .before .before .before .before .before .before .before .before .before .before .before .before .before .loop-test .taken) (sym (c .before .settled .ensures) ∙ not-true _ (c .if2 .taken))
 
 loop-less : tie.Need-loop-less Inv-loop μ-loop
-loop-less c = turn-less _ (c .before .before .before .before .before .before .before .before .before .before .before .before .before .before .loop-test .taken)
+loop-less c = turn-less _ _ (c .before .before .before .before .before .before .before .before .before .before .before .before .before .before .loop-test .taken)
 
 loop-again : tie.Need-loop-again Inv-loop μ-loop
-loop-again c = (turn-in _ (c .before .before .before .before .before .before .before .before .before .before .before .before .before .before .loop-test .taken), find-on _ _ _ _ (c .before .before .before .before .before .before .before .before .before .before .before .before .before .before .before .loop .inv .1) (sym (edge-in _ _ (c .before .before .before .before .before .before .before .before .before .before .before .before .before .before .loop-test .taken))) _ _ _ _ (c .before .before .before .before .before .before .before .before .before .before .before .before .if1 .taken) (slot-read _ _ _ _ (c .before .before .before .before .before .before .before .before .before .before .before .within .ensures .0) (c .before .before .before .before .before .before .before .before .before .edge-or .ensures)) (slot-read _ _ _ _ (c .before .before .before .before .before .before .before .before .within2 .ensures .0) (c .before .before .before .before .before .before .edge-or2 .ensures)) (slot-read _ _ _ _ (c .before .before .before .before .before .within3 .ensures .0) (c .before .before .before .edge-or3 .ensures)) (c .before .before .tidy-between .ensures) (sym (c .before .settled .ensures) ∙ not-false _ (c .if2 .left)))
+loop-again c = (turn-in _ _ (c .before .before .before .before .before .before .before .before .before .before .before .before .before .before .loop-test .taken), find-on _ _ _ _ (c .before .before .before .before .before .before .before .before .before .before .before .before .before .before .before .loop .inv .1) (sym (edge-in _ _ (c .before .before .before .before .before .before .before .before .before .before .before .before .before .before .loop-test .taken))) _ _ _ _ (c .before .before .before .before .before .before .before .before .before .before .before .before .if1 .taken) (slot-read _ _ _ _ (c .before .before .before .before .before .before .before .before .before .before .before .within .ensures .0) (c .before .before .before .before .before .before .before .before .before .edge-or .ensures)) (slot-read _ _ _ _ (c .before .before .before .before .before .before .before .before .within2 .ensures .0) (c .before .before .before .before .before .before .edge-or2 .ensures)) (slot-read _ _ _ _ (c .before .before .before .before .before .within3 .ensures .0) (c .before .before .before .edge-or3 .ensures)) (c .before .before .tidy-between .ensures) (sym (c .before .settled .ensures) ∙ not-false _ (c .if2 .left)))
 
 loop-less-2 : tie.Need-loop-less-2 Inv-loop μ-loop
 loop-less-2 c = search needs
