@@ -7,7 +7,7 @@ use Rattle.math.specs.Number.{fmin, fmax, zero-float}
 use Rattle.plane.specs.declared.PlanarPoint.{PlanarPoint}
 use Rattle.segment.specs.Segments.{Turn, Left, Right, Straight, Unknown, is-left, is-right, is-straight, side, turn, orient, apart, within-box, touches, meet-by, segments-meet}
 use Rattle.boxes.specs.Quick.{greater, lesser, low, high, beside, one-side, clear}
-use Rattle.boxes.proofs.Order.{past, short, under-not-over, one-way, nan-under, under-nan}
+use Rattle.math.proofs.Order.{past, short, under-not-over, one-way, nan-under, under-nan}
 
 -- ---- numbers that lie apart
 

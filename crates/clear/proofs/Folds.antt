@@ -4,7 +4,7 @@ use mathlib.Core.Path.{_≡_, refl, _∙_}
 use mathlib.Core.Bool.{Bool, true, false, cond, _||_}
 use mathlib.Core.List.{List}
 use lib.Ieee.{Float, nan, inf, fin, lt, le, eq, isNan}
-use Rattle.boxes.proofs.Order.{under-not-over}
+use Rattle.math.proofs.Order.{under-not-over}
 use Rattle.math.specs.Number.{infinity, open-number}
 use Rattle.plane.specs.declared.PlanarPoint.{PlanarPoint}
 use Rattle.ring.specs.Ring.{vertex-at, edge-end}

@@ -6,7 +6,7 @@ use mathlib.Core.Bool.{Bool, true, false, cond, _&&_, _||_, true≢false, false�
 use borrow.Author.Tests.{ltb-false, eqb-true, eq-eqb, le-ltb}
 use lib.Dec.{T, ltb, eqb}
 use lib.Ieee.{Float, nan, inf, fin, binary64, up, down, below, level, lt, le, eq, neg, fits, isNan}
-use Rattle.boxes.proofs.Order.{under-not-over, under-nan, itself, short}
+use Rattle.math.proofs.Order.{under-not-over, under-nan, itself, short}
 use Rattle.math.specs.Number.{abs}
 use Rattle.math.proofs.Laws.{hypot-swap, hypot-not-below}
 use Rattle.plane.specs.declared.PlanarPoint.{PlanarPoint}

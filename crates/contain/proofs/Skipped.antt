@@ -10,63 +10,11 @@ use lib.Ieee.{Float, nan, inf, fin, lt, le, eq, up, down, below, level, unlike}
 use Rattle.plane.specs.declared.PlanarPoint.{PlanarPoint}
 use Rattle.plane.specs.declared.Containment.{Containment}
 use Rattle.plane.specs.declared.Containment.the-variants.{Inside, OnBoundary, Outside}
+use Rattle.math.proofs.Order.{under-not-over, one-way}
 use Rattle.math.specs.Number.{fmin, fmax}
 use Rattle.segment.specs.Segments.{Turn, turn, touches, within-box, is-straight}
 use Rattle.ring.specs.Ring.{vertex-at, edge-end, following}
 use Rattle.contain.specs.Contains.{beside, passes, unless-on, contains-edge, contains-step, step-between}
-
--- ---- what is below is not above, nor level
-
-below-not-above : (s : Bool) (a : ℕ) (t : Bool) (b : ℕ) → below s a t b ≡ true → below t b s a ≡ false
-below-not-above false a false b h = let l : a < b = ltb-true a b h in le-ltb b a (omega arith)
-below-not-above false a true b h = absurd (false≢true h)
-below-not-above true a false b h = refl
-below-not-above true a true b h = let l : b < a = ltb-true b a h in le-ltb a b (omega arith)
-
-below-not-level : (s : Bool) (a : ℕ) (t : Bool) (b : ℕ) → below s a t b ≡ true → level t b s a ≡ false
-below-not-level false a false b h = let l : a < b = ltb-true a b h in rw (ne-eqb b a (λ (e : b ≡ a). omega arith)) refl
-below-not-level false a true b h = absurd (false≢true h)
-below-not-level true a false b h = go (eqb b a) (eqb b 0) refl refl
-  where
-    go : (x y : Bool) → eqb b a ≡ x → eqb b 0 ≡ y → (x && y) ≡ false
-    go false y p q = refl
-    go true false p q = refl
-    go true true p q =
-        let l : 0 < a + b = ltb-true 0 (a + b) h in
-        let u : b ≡ a = eqb-true b a p in
-        let v : b ≡ 0 = eqb-true b 0 q in
-        absurd (omega arith)
-below-not-level true a true b h = let l : b < a = ltb-true b a h in rw (ne-eqb b a (λ (e : b ≡ a). omega arith)) refl
-
-not-above : (x y : Float) → lt x y ≡ true → lt y x ≡ false
-unfolding lt
-not-above nan y h = absurd (false≢true h)
-not-above (inf s) nan h = absurd (false≢true h)
-not-above (inf false) (inf t) h = absurd (false≢true h)
-not-above (inf true) (inf true) h = refl
-not-above (inf true) (inf false) h = refl
-not-above (inf false) (fin t n d) h = absurd (false≢true h)
-not-above (inf true) (fin t n d) h = refl
-not-above (fin s m e) nan h = absurd (false≢true h)
-not-above (fin s m e) (inf true) h = absurd (false≢true h)
-not-above (fin s m e) (inf false) h = refl
-not-above (fin s m e) (fin t n d) h = below-not-above s (m * up e * down d) t (n * up d * down e) h
-
-not-level : (x y : Float) → lt x y ≡ true → eq y x ≡ false
-unfolding lt eq
-not-level nan y h = absurd (false≢true h)
-not-level (inf s) nan h = absurd (false≢true h)
-not-level (inf false) (inf t) h = absurd (false≢true h)
-not-level (inf true) (inf true) h = absurd (false≢true h)
-not-level (inf true) (inf false) h = refl
-not-level (inf s) (fin t n d) h = refl
-not-level (fin s m e) nan h = absurd (false≢true h)
-not-level (fin s m e) (inf t) h = refl
-not-level (fin s m e) (fin t n d) h = below-not-level s (m * up e * down d) t (n * up d * down e) h
-
-not-reached : (x y : Float) → lt x y ≡ true → le y x ≡ false
-unfolding le
-not-reached x y h = rw (not-above x y h, not-level x y h) refl
 
 -- ---- the box
 
@@ -75,18 +23,18 @@ unfolding fmin
 above-both p a b x y = go (lt a b) (eq b b)
   where
     go : (t u : Bool) → le (cond t a (cond u b a)) p ≡ false
-    go true u = not-reached p a x
-    go false true = not-reached p b y
-    go false false = not-reached p a x
+    go true u = under-not-over p a x
+    go false true = under-not-over p b y
+    go false false = under-not-over p a x
 
 below-both : (p a b : Float) → lt a p ≡ true → lt b p ≡ true → le p (fmax a b) ≡ false
 unfolding fmax
 below-both p a b x y = go (lt b a) (eq b b)
   where
     go : (t u : Bool) → le p (cond t a (cond u b a)) ≡ false
-    go true u = not-reached a p x
-    go false true = not-reached b p y
-    go false false = not-reached a p x
+    go true u = under-not-over a p x
+    go false true = under-not-over b p y
+    go false false = under-not-over a p x
 
 both : (x y : Bool) → (x && y) ≡ true → (x ≡ true) × (y ≡ true)
 both true y h = (refl, h)
@@ -124,7 +72,7 @@ beside-touches d a b p h = rw (beside-box a b p h) (and-none (is-straight d))
 -- ---- the ray
 
 beside-tests : (a b p : Float) → beside a b p ≡ true → unlike (lt p a) (lt p b) ≡ false
-beside-tests a b p h = by-side (unlike (lt p a) (lt p b) ≡ false) a b p h (λ x y. rw (x, y) refl) (λ x y. rw (not-above a p x, not-above b p y) refl)
+beside-tests a b p h = by-side (unlike (lt p a) (lt p b) ≡ false) a b p h (λ x y. rw (x, y) refl) (λ x y. rw (one-way a p x, one-way b p y) refl)
 
 beside-passes : (a b p : PlanarPoint) → beside (a .north) (b .north) (p .north) ≡ true → passes a b p ≡ false
 unfolding passes

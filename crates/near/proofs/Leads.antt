@@ -13,6 +13,7 @@ use lib.Ieee.Fits.{sub-fits, down-pos}
 use lib.Ieee.Nearest.{div-same}
 use lib.Ieee.Bits.{ofBits-fits}
 use Rattle.hypotenuse.specs.Hypot.{hypot, round-root, count}
+use Rattle.math.proofs.Order.{one-way}
 use Rattle.math.proofs.Laws.{hypot-swap}
 use Rattle.math.specs.Number.{mul, open-number}
 use Rattle.plane.specs.declared.PlanarPoint.{PlanarPoint}
@@ -28,28 +29,6 @@ use Rattle.near.specs.Near
 use Rattle.near.specs.Near.{nearer, gap-to, nearest-step, none-yet, nearest, clearly, lead-to, no-lead, closer, leader, lead-between, lead-step, reached}
 use Rattle.near.proofs.Rounded
 use Rattle.near.proofs.Clear.{tiny-number, clearly-less}
-
--- ---- what is below is not above
-
-below-not-above : (s : Bool) (a : ℕ) (t : Bool) (b : ℕ) → below s a t b ≡ true → below t b s a ≡ false
-below-not-above false a false b h = let l : a < b = ltb-true a b h in le-ltb b a (omega arith)
-below-not-above false a true b h = absurd (false≢true h)
-below-not-above true a false b h = refl
-below-not-above true a true b h = let l : b < a = ltb-true b a h in le-ltb a b (omega arith)
-
-not-above : (x y : Float) → lt x y ≡ true → lt y x ≡ false
-unfolding lt
-not-above nan y h = absurd (false≢true h)
-not-above (inf s) nan h = absurd (false≢true h)
-not-above (inf false) (inf t) h = absurd (false≢true h)
-not-above (inf true) (inf true) h = refl
-not-above (inf true) (inf false) h = refl
-not-above (inf false) (fin t n d) h = absurd (false≢true h)
-not-above (inf true) (fin t n d) h = refl
-not-above (fin s m e) nan h = absurd (false≢true h)
-not-above (fin s m e) (inf true) h = absurd (false≢true h)
-not-above (fin s m e) (inf false) h = refl
-not-above (fin s m e) (fin t n d) h = below-not-above s (m * up e * down d) t (n * up d * down e) h
 
 -- ---- a lead whose square is its vector's
 record Good (s : Lead) : Type 0 where
@@ -120,7 +99,7 @@ not-below-itself : (x : Float) → lt x x ≡ false
 not-below-itself x = go (lt x x) refl
   where
     go : (t : Bool) → lt x x ≡ t → t ≡ false
-    go true h = sym (sym (not-above x x h) ∙ h)
+    go true h = sym (sym (one-way x x h) ∙ h)
     go false h = refl
 
 closer-is : (c s : Lead) → closer c s ≡ cond (lt (length-of (c .offset)) (length-of (s .offset))) c s
@@ -140,7 +119,7 @@ leader-steps : (c s : Lead) → Good c → Good s → Steps (leader c s) c s
 unfolding leader
 leader-steps c s g f = rw (closer-is c s)
     (go (clearly (s .square) (c .square)) (clearly (c .square) (s .square)) (lt (length-of (c .offset)) (length-of (s .offset))) refl
-    (λ h. not-above (length-of (s .offset)) (length-of (c .offset)) (leads-apart s c f g h)) (leads-apart c s g f))
+    (λ h. one-way (length-of (s .offset)) (length-of (c .offset)) (leads-apart s c f g h)) (leads-apart c s g f))
   where
     go : (x y z : Bool) → lt (length-of (c .offset)) (length-of (s .offset)) ≡ z → (x ≡ true → lt (length-of (c .offset)) (length-of (s .offset)) ≡ false) →
         (y ≡ true → lt (length-of (c .offset)) (length-of (s .offset)) ≡ true) → Steps (cond x s (cond y c (cond z c s))) c s
