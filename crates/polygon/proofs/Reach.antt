@@ -1,5 +1,5 @@
 -- The tests of single numbers: of the first that is not finite a walk is left, and one past the end is not in range. Assumes nothing.
-use Prim.Native.Nat.{ℕ, _+_, _*_, _<_}
+use Prim.Native.Nat.{ℕ, _+_, _*_, _/_, _<_}
 use native.Mathlib.Nat.{le-refl, mul-pos}
 use native.Mathlib.Omega.{arith}
 use mathlib.Core.Path.{_≡_, refl, sym, _∙_}
@@ -67,7 +67,7 @@ in-reach-is (fin s m e) = between s 1953125 (pos 9) m e (omega arith)
 
 -- ---- numbers that are missing
 
-pub short : (ps : List Float) (n : ℕ) → length ps < 2 * n → false ≡ in-range ps n
+pub short : (ps : List Float) (n : ℕ) → length ps / 2 < n → false ≡ in-range ps n
 unfolding in-range in-range-step abs le lt eq
 short ps n l = sym (stays-to (in-range-step ps) true false (length ps + 1) (2 * n) (omega arith) (next-round (in-range-step ps) (length ps) true ∙ rw (← past-end ps (length ps) (le-refl (length ps))) (none (rounds (in-range-step ps) (length ps) true))) (λ m. refl))
   where

@@ -1,6 +1,5 @@
 // What comes in from outside: questions 1 and 2 of numbers, and 21 of a shape.
 ghost use mathlib.Core.Path.{_≡_};
-ghost use Prim.Native.Nat.{_≤_};
 ghost use lib.Ieee.{le};
 ghost use Rattle.math.specs.Number.{abs};
 ghost use Rattle.ringcheck.specs.Checks.{max-coordinate};
@@ -47,11 +46,10 @@ pub fn in_range_step(ps: &[f64], k: usize, s: bool) -> bool
 }
 
 // A number past the end is not in range.
-pub(crate) fn in_range(ps: &[f64], n: usize) -> bool
-    requires { ⌜ n ≤ 4096 ⌝ }
+pub fn in_range(ps: &[f64], n: usize) -> bool
     ensures { λ r. ⌜ r ≡ Outlines.in-range (now (ps .entry)) n ⌝ }
 {
-    if ps.len() < 2 * n {
+    if ps.len() / 2 < n {
         return false;
     }
     let mut s = true;
@@ -64,8 +62,7 @@ pub(crate) fn in_range(ps: &[f64], n: usize) -> bool
 }
 
 // Question 21 of a ring.
-pub(crate) fn proper(room: usize, ps: &[f64], n: usize) -> bool
-    requires { ⌜ room ≤ 4096 ⌝ }
+pub fn proper(room: usize, ps: &[f64], n: usize) -> bool
     ensures { λ r. ⌜ r ≡ Outlines.proper room (now (ps .entry)) n ⌝ }
 {
     if n <= room {
