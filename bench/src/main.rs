@@ -1,8 +1,9 @@
-//! `bench`: nanoseconds a call of our `hypot` beside the C library's, and of the questions about outlines and their offsets beside the Rust's. `bench test`: compares our `hypot` with an exact one.
+//! `bench`: nanoseconds a call of our `hypot` beside the C library's, and of the questions about outlines, their offsets and regions beside the Rust's. `bench test`: compares our `hypot` with an exact one.
 mod cases;
 mod exact;
 mod offsets;
 mod outlines;
+mod regions;
 
 use cases::{Pair, Random};
 use std::hint::black_box;
@@ -86,6 +87,8 @@ fn main() {
             outlines::measure();
             println!();
             offsets::measure();
+            println!();
+            regions::measure();
         }
         Some("test") => {
             let n = compare();

@@ -19,7 +19,9 @@ pub const LARGEST: f64 = 1e12;
 
 type Outer = Polygon<ROOM>;
 type Hole = Polygon<HOLE_ROOM>;
-type Whole = Region<ROOM, HOLE_ROOM, HOLES>;
+
+/// A region of the reference.
+pub type Whole = Region<ROOM, HOLE_ROOM, HOLES>;
 
 /// The question answered with no, and what it carries.
 #[derive(Debug, Clone, PartialEq)]
@@ -105,9 +107,9 @@ fn answer_by(job: &Job, single: Single) -> Answer {
 }
 
 fn run(job: &Job, single: Single) -> Result<Vec<Vec<PlanarPoint>>, Refusal> {
-    let rings = rings(job)?;
-    let outer = Outer::new(&rings[0]).map_err(|error| of_ring(error).in_ring(0))?;
-    if rings.len() == 1 && (job.outset || single == Single::Outline) {
+    if job.counts.len() == 1 && (job.outset || single == Single::Outline) {
+        let rings = rings(&job.counts, &job.numbers)?;
+        let outer = outer(&rings[0])?;
         let distance = checked_distance(job.distance)?;
         let result = if job.outset {
             outer.outset(distance)
@@ -117,16 +119,33 @@ fn run(job: &Job, single: Single) -> Result<Vec<Vec<PlanarPoint>>, Refusal> {
         let outline = result.map_err(of_offset)?;
         return Ok(vec![outline.vertices().to_vec()]);
     }
+    let region = new_region(&job.counts, &job.numbers)?;
+    let distance = checked_distance(job.distance)?;
+    Ok(rings_of(&region.inset(distance).map_err(of_offset)?))
+}
+
+fn outer(ring: &[PlanarPoint]) -> Result<Outer, Refusal> {
+    Outer::new(ring).map_err(|error| of_ring(error).in_ring(0))
+}
+
+/// The region that the reference makes of ring lengths and numbers: questions
+/// 1 to 12.
+pub fn new_region(counts: &[usize], numbers: &[f64]) -> Result<Whole, Refusal> {
+    let rings = rings(counts, numbers)?;
+    let outer = outer(&rings[0])?;
     let mut holes: Vec<Hole> = Vec::new();
     for (place, ring) in rings.iter().enumerate().skip(1) {
         holes.push(Hole::new(ring).map_err(|error| of_ring(error).in_ring(place))?);
     }
-    let region = Whole::new(outer, &holes).map_err(of_region)?;
-    let distance = checked_distance(job.distance)?;
-    let region = region.inset(distance).map_err(of_offset)?;
-    let mut result = vec![region.outer().vertices().to_vec()];
-    result.extend(region.holes().iter().map(|hole| hole.vertices().to_vec()));
-    Ok(result)
+    Whole::new(outer, &holes).map_err(of_region)
+}
+
+/// The rings of a region, the outer one first.
+pub fn rings_of(region: &Whole) -> Vec<Vec<PlanarPoint>> {
+    let holes = region.holes().iter().map(|hole| hole.vertices().to_vec());
+    let mut rings = vec![region.outer().vertices().to_vec()];
+    rings.extend(holes);
+    rings
 }
 
 /// Questions 1 and 2.
@@ -144,15 +163,16 @@ pub(crate) fn points(numbers: &[f64]) -> Result<Vec<PlanarPoint>, Refusal> {
 }
 
 /// Questions 1, 2 and 3; at least one ring.
-fn rings(job: &Job) -> Result<Vec<Vec<PlanarPoint>>, Refusal> {
-    let points = points(&job.numbers)?;
-    let needed: usize = job.counts.iter().sum();
-    if job.counts.is_empty() || needed != points.len() {
+fn rings(counts: &[usize], numbers: &[f64]) -> Result<Vec<Vec<PlanarPoint>>, Refusal> {
+    let points = points(numbers)?;
+    let needed = counts
+        .iter()
+        .try_fold(0_usize, |sum, count| sum.checked_add(*count));
+    if counts.is_empty() || needed != Some(points.len()) {
         return Err(Refusal::of(3, &[], &[]));
     }
     let mut points = points.into_iter();
-    Ok(job
-        .counts
+    Ok(counts
         .iter()
         .map(|count| points.by_ref().take(*count).collect())
         .collect())

@@ -22,4 +22,5 @@ pub mod hypot;
 pub mod job;
 pub mod lines;
 pub mod outlines;
+pub mod regions;
 pub mod tally;

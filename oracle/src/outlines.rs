@@ -1,4 +1,5 @@
-//! Questions about an outline and the reference's answers, one a line.
+//! Questions about an outline or a region and the reference's answers, one a
+//! line.
 //!
 //! A line has fields of 16 lower-case hexadecimal digits, parted by commas: the
 //! kind, how many fields of answer follow, the answer, and the question's
@@ -11,9 +12,10 @@ use crate::answer::{bits, checked_distance, of_offset, of_ring, points, Refusal,
 use crate::error::{KernelError, NavigationError};
 use crate::events;
 use crate::region::{Area, Containment, PlanarPoint, Polygon};
+use crate::regions::{self, Changed, Given};
 
 /// Largest coordinate of question 21.
-const MAX_COORDINATE: f64 = 1e9;
+pub(crate) const MAX_COORDINATE: f64 = 1e9;
 
 /// An outline of the reference.
 pub type Outline = Polygon<ROOM>;
@@ -48,10 +50,16 @@ pub enum Question {
     Area(f64),
     /// The outset, or else the inset, by a distance.
     Offset(bool, f64, Shape),
+    /// The region of these lengths and numbers.
+    Region(Given),
+    /// The inset of that region.
+    RegionInset(f64, Given),
+    /// A point in that region, and its measures, with a field changed.
+    RegionPoint(Given, [f64; 2], Changed),
 }
 
 /// How many kinds of questions there are.
-pub const KINDS: usize = 9;
+pub const KINDS: usize = 12;
 
 /// Names of the kinds.
 pub const NAMES: [&str; KINDS] = [
@@ -64,6 +72,9 @@ pub const NAMES: [&str; KINDS] = [
     "point",
     "area",
     "offset",
+    "region",
+    "inset",
+    "within",
 ];
 
 impl Question {
@@ -79,6 +90,9 @@ impl Question {
             Self::Point(..) => 6,
             Self::Area(_) => 7,
             Self::Offset(..) => 8,
+            Self::Region(_) => 9,
+            Self::RegionInset(..) => 10,
+            Self::RegionPoint(..) => 11,
         }
     }
 
@@ -105,6 +119,16 @@ impl Question {
                 raw(&shape.numbers),
             ]
             .concat(),
+            Self::Region(given) => regions::fields(given),
+            Self::RegionInset(distance, given) => {
+                [raw(&[*distance]), regions::fields(given)].concat()
+            }
+            Self::RegionPoint(given, point, changed) => [
+                vec![changed.place, changed.value],
+                raw(point),
+                regions::fields(given),
+            ]
+            .concat(),
         }
     }
 
@@ -120,6 +144,9 @@ impl Question {
             Self::Point(first, second) => two_points(*first, *second),
             Self::Area(value) => area(*value),
             Self::Offset(outward, distance, shape) => offset(*outward, *distance, shape),
+            Self::Region(given) => regions::region(given),
+            Self::RegionInset(distance, given) => regions::inset(given, *distance),
+            Self::RegionPoint(given, point, changed) => regions::asked(given, *point, *changed),
         }
     }
 
@@ -148,7 +175,7 @@ pub fn numbers_of(outline: &Outline) -> Vec<f64> {
 }
 
 /// Number, ring, two whole numbers and the float; what is not carried reads 0.
-fn carried(refusal: Option<&Refusal>) -> [u64; 5] {
+pub(crate) fn carried(refusal: Option<&Refusal>) -> [u64; 5] {
     let Some(refusal) = refusal else {
         return [0; 5];
     };
@@ -195,7 +222,7 @@ fn proper(shape: &Shape) -> Result<Outline, Refusal> {
 }
 
 /// Question 2 of a point: east first.
-fn checked(point: [f64; 2]) -> Result<PlanarPoint, Refusal> {
+pub(crate) fn checked(point: [f64; 2]) -> Result<PlanarPoint, Refusal> {
     PlanarPoint::from_metres(point[0], point[1]).map_err(|error| match error {
         NavigationError::Kernel(KernelError::NotFinite {
             parameter: "easting",
@@ -215,7 +242,7 @@ fn asked(shape: &Shape, point: [f64; 2]) -> Result<(Outline, PlanarPoint), Refus
 }
 
 /// The number of a refusal, and its whole number.
-fn number_and_whole(refusal: Option<&Refusal>) -> [u64; 2] {
+pub(crate) fn number_and_whole(refusal: Option<&Refusal>) -> [u64; 2] {
     let [number, _, whole, ..] = carried(refusal);
     [number, whole]
 }
@@ -224,12 +251,16 @@ fn contains(shape: &Shape, point: [f64; 2]) -> Vec<u64> {
     let asked = asked(shape, point);
     let [number, whole] = number_and_whole(asked.as_ref().err());
     let place = asked.map_or(Containment::Outside, |(outline, p)| outline.contains(p));
-    let place = match place {
+    vec![number, whole, place_number(place)]
+}
+
+/// 0 inside, 1 on the boundary, 2 outside.
+pub(crate) fn place_number(place: Containment) -> u64 {
+    match place {
         Containment::Inside => 0,
         Containment::OnBoundary => 1,
         Containment::Outside => 2,
-    };
-    vec![number, whole, place]
+    }
 }
 
 fn nearest(shape: &Shape, point: [f64; 2]) -> Vec<u64> {
@@ -371,7 +402,7 @@ impl Tally {
     pub fn add(&mut self, question: &Question) {
         let answer = question.answer();
         self.numbers[question.kind()][answer[0] as usize] += 1;
-        if matches!(question, Question::Offset(..)) {
+        if matches!(question, Question::Offset(..) | Question::RegionInset(..)) {
             for (sum, count) in self.events.iter_mut().zip(&answer[5..]) {
                 *sum += count;
             }

@@ -14,7 +14,9 @@ use Rattle.math.proofs.Order.{under-not-over, one-way}
 use Rattle.math.specs.Number.{fmin, fmax}
 use Rattle.segment.specs.Segments.{Turn, turn, touches, within-box, is-straight}
 use Rattle.ring.specs.Ring.{vertex-at, edge-end, following}
-use Rattle.contain.specs.Contains.{beside, passes, unless-on, contains-edge, contains-step, step-between}
+use Rattle.contain.specs.Contains.{beside, passes, flipped, unless-on, contains-edge, contains-step, ring-contains}
+use Rattle.loops.specs.Loop.{rounds}
+use Rattle.loops.proofs.Laws.{next-round, stays-to}
 
 -- ---- the box
 
@@ -94,13 +96,46 @@ beside-step : (ps : List Float) (n k : ℕ) (p : PlanarPoint) (s : Containment) 
 unfolding contains-step
 beside-step ps n k p s h = ap (unless-on s) (beside-edge p (vertex-at ps k) (edge-end ps n k) s h) ∙ unless-same s
 
--- the code's step is the definition's, where a and b are the norths of the edge's ends
-pub step-is :
-    (ps : List Float) (n k : ℕ) (p : PlanarPoint) (a b : Float) (s : Containment) → a ≡ vertex-at ps k .north → b ≡ edge-end ps n k .north →
-    step-between ps n p k a b s ≡ contains-step ps n p k s
-unfolding step-between
-step-is ps n k p a b s e h = rw (e, h) (go (beside (vertex-at ps k .north) (edge-end ps n k .north) (p .north)) refl)
-  where
-    go : (t : Bool) → beside (vertex-at ps k .north) (edge-end ps n k .north) (p .north) ≡ t → cond t s (contains-step ps n p k s) ≡ contains-step ps n p k s
-    go true h = sym (beside-step ps n k p s h)
-    go false h = refl
+-- ---- the place of a point that is on no edge so far, by whether an odd number of edges was passed
+
+unfoldable pub odd : Bool → Containment
+odd i = cond i Inside Outside
+
+pub first-odd : (ps : List Float) (n : ℕ) (p : PlanarPoint) → odd false ≡ rounds (contains-step ps n p) 0 Outside
+unfolding odd rounds
+first-odd ps n p = refl
+
+unless-odd : (i : Bool) (x : Containment) → unless-on (odd i) x ≡ x
+unfolding unless-on odd
+unless-odd true x = refl
+unless-odd false x = refl
+
+flip : (i t : Bool) → cond t (flipped (odd i)) (odd i) ≡ odd (unlike i t)
+unfolding flipped odd
+flip true true = refl
+flip true false = refl
+flip false true = refl
+flip false false = refl
+
+-- one step, from a to b, which are the ends of the edge k
+module _ (ps : List Float) (n k : ℕ) (p a b : PlanarPoint) (i : Bool) (e : a ≡ vertex-at ps k) (h : b ≡ edge-end ps n k) where
+  pub left-out : (t : Bool) → t ≡ beside (a .north) (b .north) (p .north) → t ≡ true → odd i ≡ contains-step ps n p k (odd i)
+  left-out t f g = sym (beside-step ps n k p (odd i) (rw (← e, ← h, ← f) g))
+
+  pub counted : (t r : Bool) → t ≡ touches (turn a b p) a b p → t ≡ false → r ≡ passes a b p → odd (unlike i r) ≡ contains-step ps n p k (odd i)
+  unfolding contains-step contains-edge
+  counted t r f g q = rw (← e, ← h, ← f, g, ← q) (sym (unless-odd i (cond r (flipped (odd i)) (odd i)) ∙ flip i r))
+
+  pub met : touches (turn a b p) a b p ≡ true → contains-step ps n p k (odd i) ≡ OnBoundary
+  unfolding contains-step contains-edge
+  met t = rw (← e, ← h, t) (unless-odd i OnBoundary)
+
+-- a point found on the boundary stays there
+pub on-boundary :
+    (ps : List Float) (n k : ℕ) (p a b : PlanarPoint) (i t : Bool) → a ≡ vertex-at ps k → b ≡ edge-end ps n k → k < n →
+    odd i ≡ rounds (contains-step ps n p) k Outside → t ≡ touches (turn a b p) a b p → t ≡ true → OnBoundary ≡ ring-contains ps n p
+unfolding ring-contains contains-step unless-on
+on-boundary ps n k p a b i t e h l so-far f g =
+    sym
+    (stays-to (contains-step ps n p) Outside OnBoundary (k + 1) n (omega arith)
+    (next-round (contains-step ps n p) k Outside ∙ ap (contains-step ps n p k) (sym so-far) ∙ met ps n k p a b i e h (sym f ∙ g)) (λ m. refl))

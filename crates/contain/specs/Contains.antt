@@ -45,11 +45,7 @@ ring-contains ps n p = rounds (contains-step ps n p) n Outside
 unfoldable pub beside : Float → Float → Float → Bool
 beside a b p = (lt p a && lt p b) || (lt a p && lt b p)
 
--- the step at the edge k, whose ends have the norths a and b: one that p is beside is left out
-unfoldable pub step-between : List Float → ℕ → PlanarPoint → ℕ → Float → Float → Containment → Containment
-step-between ps n p k a b s = cond (beside a b (p .north)) s (contains-step ps n p k s)
-
 -- opens every definition above, for a proof that computes with all of them
 unfoldable pub open-contains : Unit {0}
-unfolding unless-on flipped passes contains-edge contains-step ring-contains beside step-between
+unfolding unless-on flipped passes contains-edge contains-step ring-contains beside
 open-contains = tt

@@ -1,6 +1,7 @@
 // Where a point lies: by the crossings of a ray to the east, the boundary asked first.
 ghost use mathlib.Core.Path.{_≡_};
 ghost use mathlib.Core.Bool.{cond};
+ghost use Rattle.segment.specs.Segments;
 ghost use Rattle.contain.specs.Contains;
 use plane::Containment;
 use plane::PlanarPoint;
@@ -12,27 +13,6 @@ pub fn choose(test: bool, a: Containment, b: Containment) -> Containment
     if test { a } else { b }
 }
 
-// A point found on the boundary stays there.
-pub fn unless_on(s: Containment, x: Containment) -> Containment
-    ensures { λ r. ⌜ r ≡ Contains.unless-on s x ⌝ }
-{
-    match s {
-        Containment::Inside => x,
-        Containment::OnBoundary => Containment::OnBoundary,
-        Containment::Outside => x,
-    }
-}
-
-pub fn flipped(s: Containment) -> Containment
-    ensures { λ r. ⌜ r ≡ Contains.flipped s ⌝ }
-{
-    match s {
-        Containment::Inside => Containment::Outside,
-        Containment::OnBoundary => Containment::OnBoundary,
-        Containment::Outside => Containment::Inside,
-    }
-}
-
 // Whether the ray from p to the east passes the edge ab, which is half-open in north.
 pub fn passes(a: PlanarPoint, b: PlanarPoint, p: PlanarPoint) -> bool
     ensures { λ r. ⌜ r ≡ Contains.passes a b p ⌝ }
@@ -41,23 +21,11 @@ pub fn passes(a: PlanarPoint, b: PlanarPoint, p: PlanarPoint) -> bool
     ((p.north < a.north) != (p.north < b.north)) & (p.east < east)
 }
 
-pub fn contains_edge(p: PlanarPoint, a: PlanarPoint, b: PlanarPoint, s: Containment) -> Containment
-    ensures { λ r. ⌜ r ≡ Contains.contains-edge p a b s ⌝ }
+// Whether p lies on the edge ab.
+pub fn on_edge(p: PlanarPoint, a: PlanarPoint, b: PlanarPoint) -> bool
+    ensures { λ r. ⌜ r ≡ Segments.touches (Segments.turn a b p) a b p ⌝ }
 {
-    let on = segment::touches(segment::orient(a, b, p), a, b, p);
-    choose(
-        on,
-        Containment::OnBoundary,
-        choose(passes(a, b, p), flipped(s), s),
-    )
-}
-
-pub fn contains_step(ps: &[f64], n: usize, p: PlanarPoint, k: usize, s: Containment) -> Containment
-    ensures { λ r. ⌜ r ≡ Contains.contains-step (now (ps .entry)) n p k s ⌝ }
-{
-    let a = ring::vertex_at(ps, k);
-    let b = ring::edge_end(ps, n, k);
-    unless_on(s, contains_edge(p, a, b, s))
+    segment::touches(segment::orient(a, b, p), a, b, p)
 }
 
 // Whether a point of the north p is south of both ends of an edge, or north of both: a and b are their norths.
@@ -67,38 +35,34 @@ pub fn beside(a: f64, b: f64, p: f64) -> bool
     ((p < a) & (p < b)) | ((a < p) & (b < p))
 }
 
-// The step at the edge k, whose ends have the norths a and b. An edge that p is beside is left out.
-pub fn step_between(
-    ps: &[f64],
-    n: usize,
-    p: PlanarPoint,
-    k: usize,
-    a: f64,
-    b: f64,
-    s: Containment,
-) -> Containment
-    ensures { λ r. ⌜ r ≡ Contains.step-between (now (ps .entry)) n p k a b s ⌝ }
+// An edge that the point is beside is left out. `inside`: an odd number of edges was passed so far. The point's numbers come in registers: a point in memory that was just stored is slow to read.
+pub fn place_of(ps: &[f64], n: usize, east: f64, north: f64) -> Containment
+    ensures { λ r. ⌜ r ≡ Contains.ring-contains (now (ps .entry)) n (record { east = east; north = north }) ⌝ }
 {
-    if beside(a, b, p.north) {
-        s
-    } else {
-        contains_step(ps, n, p, k, s)
+    let p = PlanarPoint {
+        east: east,
+        north: north,
+    };
+    let mut a = ring::vertex_at(ps, 0);
+    let mut inside = false;
+    let mut k = 0;
+    while k < n {
+        let b = ring::edge_end(ps, n, k);
+        let start = a;
+        a = b;
+        k += 1;
+        if !beside(start.north, b.north, north) {
+            if on_edge(p, start, b) {
+                return Containment::OnBoundary;
+            }
+            inside = inside != passes(start, b, p);
+        }
     }
+    choose(inside, Containment::Inside, Containment::Outside)
 }
 
 pub fn ring_contains(ps: &[f64], n: usize, p: PlanarPoint) -> Containment
     ensures { λ r. ⌜ r ≡ Contains.ring-contains (now (ps .entry)) n p ⌝ }
 {
-    let first = ring::vertex_at(ps, 0);
-    let mut a = first.north;
-    let mut s = Containment::Outside;
-    let mut k = 0;
-    while k < n {
-        let end = ring::edge_end(ps, n, k);
-        let b = end.north;
-        s = step_between(ps, n, p, k, a, b, s);
-        a = b;
-        k += 1;
-    }
-    s
+    place_of(ps, n, p.east, p.north)
 }

@@ -207,20 +207,6 @@ pub fn strike_at(
     strike(target, lines::moved_by(p, v, step), from, to)
 }
 
-// Past this many slots no edge is alive.
-pub fn used_slots(edges: [Edge; 128]) -> usize
-    ensures { λ r. ⌜ r ≡ Found.used-slots edges ⌝ }
-{
-    let mut used = 0;
-    let mut i = 0;
-    while i < 128 {
-        let e = edges[i];
-        i += 1;
-        used = ring::choose(e.alive, i, used);
-    }
-    used
-}
-
 // The soonest event after offset t. A vertex without a velocity ends the search.
 pub fn next_event(edges: [Edge; 128], t: f64) -> Event
     ensures { λ r. ⌜ r ≡ NextEvent.next-event edges t ⌝ }
@@ -232,7 +218,14 @@ pub fn next_event(edges: [Edge; 128], t: f64) -> Event
     let mut vertex = 0;
     let mut hit = 0;
     let mut step = 0.0;
-    let used = used_slots(edges);
+    // past this many slots no edge is alive
+    let mut used = 0usize;
+    let mut u = 0usize;
+    while u < 128 {
+        let own = edges[u];
+        u += 1;
+        used = ring::choose(own.alive, u, used);
+    }
     let mut i = 0;
     while i < used {
         let slot = i;

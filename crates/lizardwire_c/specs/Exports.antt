@@ -12,18 +12,22 @@ use Rattle.values.specs.Carries.{carried}
 use Rattle.plane.specs.declared.PlanarPoint.{PlanarPoint}
 use Rattle.plane.specs.declared.Containment.{Containment}
 use Rattle.plane.specs.declared.Containment.the-variants.{Inside, OnBoundary, Outside}
+use Rattle.areas.specs.declared.NewArea.{NewArea}
 use Rattle.polygon.specs.declared.NewOutline.{NewOutline}
 use Rattle.polygon.specs.declared.Outline.{Outline}
 use Rattle.polygon.specs.Outlines.{outline, stored-outline}
 use Rattle.offset.specs.declared.OffsetWritten.{OffsetWritten}
-use Rattle.lent.specs.Writes.{ring-write, written-ring}
+unfoldable pub use Rattle.direct.specs.Direct.{outline-told, over-outline}
 use Rattle.queries.specs.declared.Placed.{Placed}
 use Rattle.queries.specs.declared.Neared.{Neared}
-use Rattle.queries.specs.Queries.{contains, nearest}
+use Rattle.queries.specs.Queries.{contains, nearest, area}
 use Rattle.lizardwire_c.specs.declared.LwOutline.{LwOutline}
 use Rattle.lizardwire_c.specs.declared.LwPlace.{LwPlace}
 use Rattle.lizardwire_c.specs.declared.LwNearest.{LwNearest}
+use Rattle.lizardwire_c.specs.declared.LwArea.{LwArea}
 use Rattle.lizardwire_c.specs.declared.LwOffset.{LwOffset}
+use Rattle.lizardwire_c.specs.declared.LwLine.{LwLine}
+use Rattle.answering.specs.declared.Answered.{Answered}
 
 -- how many vertices the numbers of a shape handed in are; none where their count is odd, which 21 then refuses
 unfoldable pub vertices : ℕ → ℕ
@@ -38,14 +42,8 @@ outline-answer c n = record { refusal = c .question; ring = c .ring; first = c .
 unfoldable pub checked : NewOutline → LwOutline
 checked o = outline-answer (carried (o .refusal)) (o .shape .count)
 
-unfoldable pub outline-told : NewOutline → List Float → Refusal
-outline-told o out = cond (granted (o .refusal)) (ring-write (o .shape .points) (o .shape .count) out) (o .refusal)
-
 unfoldable pub told-outline : NewOutline → List Float → LwOutline
 told-outline o out = outline-answer (carried (outline-told o out)) (cond (granted (outline-told o out)) (o .shape .count) 0)
-
-unfoldable pub over-outline : NewOutline → List Float → List Float
-over-outline o out = cond (granted (o .refusal)) (written-ring (o .shape .points) (o .shape .count) out) out
 
 -- ---- questions about an outline handed in
 
@@ -66,6 +64,12 @@ nearest-answer c d p = record { refusal = c .question; first = c .first; distanc
 unfoldable pub told-nearest : Neared → LwNearest
 told-nearest a = nearest-answer (carried (a .refusal)) (a .distance) (a .point)
 
+unfoldable pub area-answer : Carried → Float → LwArea
+area-answer c x = record { refusal = c .question; area = x }
+
+unfoldable pub told-area : NewArea → LwArea
+told-area a = area-answer (carried (a .refusal)) (a .area .value)
+
 -- ---- offsets of an outline handed in
 
 unfoldable pub given : List Float → Outline
@@ -78,7 +82,15 @@ offset-answer c a =
 unfoldable pub told-offset : OffsetWritten → LwOffset
 told-offset a = offset-answer (carried (a .refusal)) a
 
+-- ---- a job line: the bytes written, or those needed
+
+unfoldable pub line-answer : Carried → Answered → LwLine
+line-answer c a = record { refusal = c .question; count = cond (granted (a .refusal)) (a .count) (c .first) }
+
+unfoldable pub told-line : Answered → LwLine
+told-line a = line-answer (carried (a .refusal)) a
+
 -- opens every definition above, for a proof that computes with all of them
 unfoldable pub open-exports : Unit {0}
-unfolding vertices outline-answer checked outline-told told-outline over-outline place-number place-answer told-place nearest-answer told-nearest given offset-answer told-offset
+unfolding vertices outline-answer checked told-outline place-number place-answer told-place nearest-answer told-nearest area-answer told-area given offset-answer told-offset line-answer told-line
 open-exports = tt

@@ -5,16 +5,23 @@ ghost use lib.ListN.{length};
 ghost use Rattle.hypotenuse.specs.Hypot;
 ghost use Rattle.polygon.specs.Outlines;
 ghost use Rattle.offset.specs.Lent;
+ghost use Rattle.region.specs.Checks;
+ghost use Rattle.region_c.specs.Told;
+ghost use Rattle.jobs.specs.Lines;
+ghost use Rattle.answering.specs.Writing;
 ghost use Rattle.queries.specs.Queries;
 ghost use Rattle.lizardwire_c.specs.Exports;
+use answering::Answered;
+use areas::NewArea;
 use offset::OffsetWritten;
 use plane::Containment;
 use plane::PlanarPoint;
-use polygon::NewOutline;
 use polygon::Outline;
 use polygon::store;
 use queries::Neared;
 use queries::Placed;
+use region_c::LwRegion;
+use region_c::LwRegionOffset;
 use values::Carried;
 
 // What the check of an outline answers: the refusal's number, 0 where granted, what it carries, and the vertices written.
@@ -46,6 +53,13 @@ pub struct LwNearest {
     pub north: f64,
 }
 
+// The enclosed area.
+#[repr(C)]
+pub struct LwArea {
+    pub refusal: usize,
+    pub area: f64,
+}
+
 // What an offset answers: the refusal's number and what it carries, the vertices written, and the completed events.
 #[repr(C)]
 pub struct LwOffset {
@@ -58,6 +72,13 @@ pub struct LwOffset {
     pub collapses: usize,
     pub divides: usize,
     pub joins: usize,
+}
+
+// What a job line answers: 0 and the bytes written, or 20 and the bytes needed.
+#[repr(C)]
+pub struct LwLine {
+    pub refusal: usize,
+    pub count: usize,
 }
 
 // How many vertices so many numbers are; an odd count is none.
@@ -105,6 +126,18 @@ pub fn told_nearest(a: Neared) -> LwNearest
     }
 }
 
+pub fn told_area(a: NewArea) -> LwArea
+    ensures { λ r. ⌜ r ≡ Exports.told-area a ⌝ }
+{
+    let refusal = a.refusal;
+    let area = a.area;
+    let c = Carried::new(refusal);
+    LwArea {
+        refusal: c.question,
+        area: area.value,
+    }
+}
+
 pub fn told_offset(a: OffsetWritten) -> LwOffset
     ensures { λ r. ⌜ r ≡ Exports.told-offset a ⌝ }
 {
@@ -120,6 +153,17 @@ pub fn told_offset(a: OffsetWritten) -> LwOffset
         collapses: a.collapses,
         divides: a.divides,
         joins: a.joins,
+    }
+}
+
+pub fn told_line(a: Answered) -> LwLine
+    ensures { λ r. ⌜ r ≡ Exports.told-line a ⌝ }
+{
+    let refusal = a.refusal;
+    let c = Carried::new(refusal);
+    LwLine {
+        refusal: c.question,
+        count: ring::choose(refusal.granted(), a.count, c.first),
     }
 }
 
@@ -143,21 +187,6 @@ pub fn outline_answer(c: Carried, count: usize) -> LwOutline
     }
 }
 
-// An outline to lent output, if there is one.
-pub fn told_outline(o: NewOutline, out: &mut [f64]) -> LwOutline
-    ensures answered { λ r. ⌜ r ≡ Exports.told-outline o (now (out .entry)) ⌝ }
-    ensures written { λ _. ⌜ now (out .exit) ≡ Exports.over-outline o (now (out .entry)) ⌝ }
-{
-    let refusal = o.refusal;
-    if refusal.granted() {
-        let count = o.shape.count;
-        let r = lent::write_outline(&o.shape.points, count, out);
-        outline_answer(Carried::new(r), ring::choose(r.granted(), count, 0))
-    } else {
-        outline_answer(Carried::new(refusal), 0)
-    }
-}
-
 // math::hypot.
 #[no_mangle]
 pub extern "C" fn lw_hypot(x: f64, y: f64) -> f64
@@ -171,9 +200,9 @@ pub extern "C" fn lw_hypot(x: f64, y: f64) -> f64
 pub extern "C" fn lw_check(numbers: &[f64]) -> LwOutline
     ensures { λ r. ⌜ r ≡ Exports.checked (Outlines.outline (now (numbers .entry))) ⌝ }
 {
-    let made = Outline::new(numbers);
+    let made = direct::check_outline(numbers);
     let refusal = made.refusal;
-    outline_answer(Carried::new(refusal), made.shape.count)
+    outline_answer(Carried::new(refusal), made.count)
 }
 
 // The outline of these numbers, written to `out`: questions 1, 2 and 4 to 9, then 20.
@@ -182,7 +211,9 @@ pub extern "C" fn lw_outline(numbers: &[f64], out: &mut [f64]) -> LwOutline
     ensures answered { λ r. ⌜ r ≡ Exports.told-outline (Outlines.outline (now (numbers .entry))) (now (out .entry)) ⌝ }
     ensures written { λ _. ⌜ now (out .exit) ≡ Exports.over-outline (Outlines.outline (now (numbers .entry))) (now (out .entry)) ⌝ }
 {
-    told_outline(Outline::new(numbers), out)
+    let made = direct::write_outline(numbers, out);
+    let refusal = made.refusal;
+    outline_answer(Carried::new(refusal), made.count)
 }
 
 // Where a point lies in an outline handed in: 21, then 2 of the point.
@@ -209,6 +240,14 @@ pub extern "C" fn lw_nearest(outline: &[f64], east: f64, north: f64) -> LwNeares
     told_nearest(queries::nearest(outline, vertices(outline.len()), p))
 }
 
+// The area of an outline handed in: 21.
+#[no_mangle]
+pub extern "C" fn lw_area(outline: &[f64]) -> LwArea
+    ensures { λ r. ⌜ r ≡ Exports.told-area (Queries.area (now (outline .entry)) (Exports.vertices (length (now (outline .entry))))) ⌝ }
+{
+    told_area(sizes::area(outline, vertices(outline.len())))
+}
+
 // The inset of an outline handed in, written to `out`: 21, 13, 14, what the offset answers, then 20.
 #[no_mangle]
 pub extern "C" fn lw_inset(outline: &[f64], distance: f64, out: &mut [f64]) -> LwOffset
@@ -225,4 +264,40 @@ pub extern "C" fn lw_outset(outline: &[f64], distance: f64, out: &mut [f64]) -> 
     ensures written { λ _. ⌜ now (out .exit) ≡ Lent.written-offset (Exports.given (now (outline .entry))) true distance (now (out .entry)) ⌝ }
 {
     told_offset(offsetting::offset_into(given(outline), true, distance, out))
+}
+
+// The region of these numbers, ring after ring, written to `out`: questions 1 to 12, then 20.
+#[no_mangle]
+pub extern "C" fn lw_region<'a>(
+    numbers: &'a [f64],
+    lengths: &'a [usize],
+    out: &'a mut [f64],
+) -> LwRegion
+    ensures answered { λ r. ⌜ r ≡ Told.told-region (Told.region-made (Checks.region (now (lengths .entry)) (now (numbers .entry))) (now (out .entry))) ⌝ }
+    ensures written { λ _. ⌜ now (out .exit) ≡ Told.region-over (Checks.region (now (lengths .entry)) (now (numbers .entry))) (now (out .entry)) ⌝ }
+{
+    region_c::told_region(region_c::region_into(lengths, numbers, out))
+}
+
+// The inset of the region of these numbers, written to `out`: questions 1 to 12, then 13 to 19, then 20.
+#[no_mangle]
+pub extern "C" fn lw_region_inset<'a>(
+    numbers: &'a [f64],
+    lengths: &'a [usize],
+    distance: f64,
+    out: &'a mut [f64],
+) -> LwRegionOffset
+    ensures answered { λ r. ⌜ r ≡ Told.told-inset (Told.inset-made (Checks.region (now (lengths .entry)) (now (numbers .entry))) distance (now (out .entry))) ⌝ }
+    ensures written { λ _. ⌜ now (out .exit) ≡ Told.inset-over (Checks.region (now (lengths .entry)) (now (numbers .entry))) distance (now (out .entry)) ⌝ }
+{
+    region_c::told_inset(region_c::inset_into(lengths, numbers, distance, out))
+}
+
+// The answer line of a job line, both without LF, written to `out`: question 20 last. A refused job is an answer, too.
+#[no_mangle]
+pub extern "C" fn lw_job_line(line: &[u8], out: &mut [u8]) -> LwLine
+    ensures answered { λ r. ⌜ r ≡ Exports.told-line (Writing.bytes-answered (Lines.answer-line (now (line .entry))) (now (out .entry))) ⌝ }
+    ensures written { λ _. ⌜ now (out .exit) ≡ Lines.bytes-written (Lines.answer-line (now (line .entry))) (now (out .entry)) ⌝ }
+{
+    told_line(wire::answer_line(line, out))
 }

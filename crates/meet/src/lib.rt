@@ -22,7 +22,12 @@ pub(crate) fn pair_meets(
     if boxes::clear(d, e, l, h, b1, b2) {
         return false;
     }
-    segment::segments_meet(a1, a2, b1, b2)
+    let f = segment::orient(b1, b2, a1);
+    let g = segment::orient(b1, b2, a2);
+    if (f == 0.0) | ((g == 0.0) | ((d == 0.0) | (e == 0.0))) {
+        return segment::segments_meet(a1, a2, b1, b2);
+    }
+    segment::apart(f, g) & segment::apart(d, e)
 }
 
 // Whether the segment from a1 to a2 meets an edge of the ring. A pair whose boxes are apart is passed by two turns.

@@ -12,6 +12,7 @@ use Rattle.polygon.specs.declared.Outline.{Outline}
 use Rattle.polygon.specs.declared.NewOutline.{NewOutline}
 use Rattle.front.specs.declared.Loaded.{Loaded}
 use Rattle.front.specs.declared.Sweep.{Sweep}
+use Rattle.advancing.specs.Acts.{cleared}
 use Rattle.offset.specs.declared.Offset.{Offset}
 use Rattle.offset.specs.declared.Pieces.{Pieces}
 use Rattle.math.specs.Number
@@ -20,7 +21,7 @@ use Rattle.ring.specs.Ring.{vertex-at}
 use Rattle.measures.specs.Measures.{extent}
 use Rattle.meet.specs.Meet.{rings-meet}
 use Rattle.polygon.specs.Outlines.{no-outline, outline-refused, offset-tolerance, proper, ask, ask-ring}
-use Rattle.front.specs.Loading.{load-ring, loaded-nothing}
+use Rattle.front.specs.Loading.{no-front, load-ring, loaded-nothing}
 use Rattle.front.specs.Sweeps.{offset-rings}
 use Rattle.offset.specs.Offsets
 use Rattle.offset.specs.Offsets.{check-distance, pieces, keeps-clear, offset-clear, offset-found, offset-finished, offset-swept, offset-counted, offset-plain, sweep, offset-from, offset-by, offset}
@@ -92,9 +93,36 @@ module _ (o : Outline) (outward : Bool) (d : Float) where
   unfolding offset-from offset-counted
   counted s a e = ap (λ (x : NewOutline). offset-counted x s) e
 
-  pub swept-from : (v : PlanarPoint) (l : Loaded) (s : Sweep) → v ≡ vertex-at (o .points) 0 → l ≡ load-ring (o .points) (o .count) outward v d loaded-nothing → s ≡ offset-rings d l → s ≡ sweep o outward d
+  pub swept-from : (v : PlanarPoint) (l : Loaded) (s : Sweep) → v ≡ vertex-at (o .points) 0 → l ≡ load-ring (o .points) (o .count) outward v d loaded-nothing → s ≡ cleared (offset-rings d l) → s ≡ cleared (sweep o outward d)
   unfolding sweep
   swept-from v l s e f g = g ∙ rw (f, e) refl
+
+  -- the front of a refused sweep is not read
+  unfoldable bare : Sweep → Sweep
+  bare s = record { edges = no-front; travelled = s .travelled; collapses = s .collapses; divides = s .divides; joins = s .joins; ended = s .ended; refusal = s .refusal }
+
+  kept : (s : Sweep) → granted (s .refusal) ≡ true → cleared s ≡ s
+  unfolding cleared
+  kept s h = rw h refl
+
+  bared : (s : Sweep) → granted (s .refusal) ≡ false → cleared s ≡ bare s
+  unfolding cleared bare
+  bared s h = rw h refl
+
+  bare-swept : (s : Sweep) → granted (s .refusal) ≡ false → offset-swept o outward d (bare s) ≡ offset-swept o outward d s
+  unfolding offset-swept bare
+  bare-swept s h = rw h refl
+
+  bare-same : (s : Sweep) → granted (s .refusal) ≡ false → offset-from o outward d (bare s) ≡ offset-from o outward d s
+  unfolding offset-from offset-counted bare
+  bare-same s h = ap (λ (x : NewOutline). offset-counted x s) (bare-swept s h)
+
+  cleared-same : (s : Sweep) → offset-from o outward d (cleared s) ≡ offset-from o outward d s
+  cleared-same s = go (granted (s .refusal)) refl
+    where
+      go : (b : Bool) → granted (s .refusal) ≡ b → offset-from o outward d (cleared s) ≡ offset-from o outward d s
+      go true h = ap (offset-from o outward d) (kept s h)
+      go false h = ap (offset-from o outward d) (bared s h) ∙ bare-same s h
 
   -- ---- 21, 13 and 14, and an offset by 0
   module _ (c r : Refusal) (e : c ≡ check-distance d) (f : r ≡ ask-ring (o .points) (o .count) c) (a : Offset) where
@@ -115,9 +143,9 @@ module _ (o : Outline) (outward : Bool) (d : Float) where
     unfolding offset offset-by
     unmoved h z i = rw (both h .0, both h .1, z) i
 
-    pub moved : (s : Sweep) → granted r ≡ true → eq d zero-float ≡ false → s ≡ sweep o outward d → a ≡ offset-from o outward d s → a ≡ offset o outward d
+    pub moved : (s : Sweep) → granted r ≡ true → eq d zero-float ≡ false → s ≡ cleared (sweep o outward d) → a ≡ offset-from o outward d s → a ≡ offset o outward d
     unfolding offset offset-by
-    moved s h z i j = rw (both h .0, both h .1, z) (j ∙ ap (offset-from o outward d) i)
+    moved s h z i j = rw (both h .0, both h .1, z) (j ∙ ap (offset-from o outward d) i ∙ cleared-same (sweep o outward d))
 
   -- ---- demand 3 of what is handed back
   pub demanded : (a : Offset) → a ≡ offset o outward d → proper 128 (o .points) (o .count) ≡ true → AnswerDemand (o .count) 1 (a .refusal) (a .collapses) (a .divides) (a .joins)

@@ -3,6 +3,7 @@ ghost use mathlib.Core.Path.{_≡_};
 ghost use mathlib.Core.Bool.{true};
 ghost use Prim.Native.Nat.{_≤_};
 ghost use Rattle.polygon.specs.Outlines;
+ghost use Rattle.advancing.specs.Acts;
 ghost use Rattle.offset.specs.Answers;
 ghost use Rattle.offset.specs.Lent;
 ghost use Rattle.offset.specs.Offsets;
@@ -103,13 +104,13 @@ pub fn offset_from(o: Outline, outward: bool, d: f64, s: Sweep) -> Offset
     }
 }
 
-// The front's work for an outline.
+// The front's work for an outline. A refused front is left out.
 pub fn sweep(o: Outline, outward: bool, d: f64) -> Sweep
-    ensures { λ r. ⌜ r ≡ Offsets.sweep o outward d ⌝ }
+    ensures { λ r. ⌜ r ≡ Acts.cleared (Offsets.sweep o outward d) ⌝ }
 {
     let origin = ring::vertex_at(&o.points, 0);
     let loaded = loading::load_outer(&o.points, o.count, outward, origin, d);
-    sweeping::offset_rings(d, loaded)
+    advancing::advance(d, loaded)
 }
 
 // An answer without a sweep.

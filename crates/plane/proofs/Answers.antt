@@ -1,31 +1,18 @@
--- A point and an area beside their refusal. Assumes nothing.
+-- A point beside its refusal. Assumes nothing.
 use mathlib.Core.Path.{_≡_, refl}
 use mathlib.Core.Bool.{Bool, true, false, cond}
-use lib.Ieee.{Float}
 use Rattle.error.specs.declared.Refusal.{Refusal}
 use Rattle.error.specs.declared.Refusal.the-variants.{Granted}
 use Rattle.error.specs.Refusals.{granted}
 use Rattle.error.proofs.Laws.{granted-is}
-use Rattle.math.specs.Number.{zero-float}
 use Rattle.plane.specs.declared.PlanarPoint.{PlanarPoint}
 use Rattle.plane.specs.declared.NewPoint.{NewPoint}
-use Rattle.plane.specs.declared.NewArea.{NewArea}
-use Rattle.plane.specs.Points.{origin, point-if, area-if}
+use Rattle.plane.specs.Points.{origin, point-if}
 
 pub point-told : (r : Refusal) (p : PlanarPoint) → record { refusal = r; point = cond (granted r) p origin } ≡ point-if p r
 unfolding point-if
 point-told r p = go (granted r) refl
   where
     go : (b : Bool) → granted r ≡ b → _≡_ {A = NewPoint} (record { refusal = r; point = cond b p origin }) (cond b (record { refusal = Granted; point = p }) (record { refusal = r; point = origin }))
-    go true h = rw (granted-is r h) refl
-    go false h = refl
-
-pub area-told : (r : Refusal) (x : Float) → record { refusal = r; area = record { value = cond (granted r) x zero-float } } ≡ area-if x r
-unfolding area-if
-area-told r x = go (granted r) refl
-  where
-    go : (b : Bool) → granted r ≡ b →
-        _≡_ {A = NewArea} (record { refusal = r; area = record { value = cond b x zero-float } })
-        (cond b (record { refusal = Granted; area = record { value = x } }) (record { refusal = r; area = record { value = zero-float } }))
     go true h = rw (granted-is r h) refl
     go false h = refl

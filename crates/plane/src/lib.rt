@@ -17,17 +17,6 @@ pub struct NewPoint {
     pub point: PlanarPoint,
 }
 
-// An area in square metres, never negative.
-pub struct Area {
-    pub value: f64,
-}
-
-// An area, or the refusal of its number.
-pub struct NewArea {
-    pub refusal: Refusal,
-    pub area: Area,
-}
-
 // Where a point lies relative to an outline or a region.
 pub enum Containment {
     Inside,
@@ -115,33 +104,5 @@ impl PlanarPoint {
     {
         let delta = sub(other, self);
         math::distance(length_of(delta))
-    }
-}
-
-impl Area {
-    // The area of this many square metres: 2 where it is not finite, 14 below 0.
-    pub fn from_square_metres(value: f64) -> NewArea
-        ensures { λ r. ⌜ r ≡ Points.from-square-metres value ⌝ }
-    {
-        let sign = error::choose(value < 0.0, Refusal::Negative(value), Refusal::Granted);
-        let refusal = error::choose(math::finite(value), sign, Refusal::NotFinite(0));
-        NewArea {
-            refusal: refusal,
-            area: Area {
-                value: math::choose(refusal.granted(), value, 0.0),
-            },
-        }
-    }
-
-    pub fn from_hectares(value: f64) -> NewArea
-        ensures { λ r. ⌜ r ≡ Points.from-hectares value ⌝ }
-    {
-        Area::from_square_metres(value * 10000.0)
-    }
-
-    pub fn hectares(self) -> f64
-        ensures { λ r. ⌜ r ≡ Points.hectares self ⌝ }
-    {
-        self.value / 10000.0
     }
 }

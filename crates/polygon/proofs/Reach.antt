@@ -65,6 +65,10 @@ in-reach-is (inf true) = refl
 in-reach-is (inf false) = refl
 in-reach-is (fin s m e) = between s 1953125 (pos 9) m e (omega arith)
 
+pub in-step : (ps : List Float) (k : ℕ) (s r : Bool) (x : Float) → x ≡ getD ps k nan → r ≡ le (abs x) max-coordinate → (s && r) ≡ in-range-step ps k s
+unfolding in-range-step
+in-step ps k s r x e h = rw (h, e) refl
+
 -- ---- numbers that are missing
 
 pub short : (ps : List Float) (n : ℕ) → length ps / 2 < n → false ≡ in-range ps n

@@ -39,12 +39,6 @@ pub fn in_reach(x: f64) -> bool
     (-ringcheck::MAX_COORDINATE <= x) & (x <= ringcheck::MAX_COORDINATE)
 }
 
-pub fn in_range_step(ps: &[f64], k: usize, s: bool) -> bool
-    ensures { λ r. ⌜ r ≡ Outlines.in-range-step (now (ps .entry)) k s ⌝ }
-{
-    s & in_reach(ring::number_at(ps, k))
-}
-
 // A number past the end is not in range.
 pub fn in_range(ps: &[f64], n: usize) -> bool
     ensures { λ r. ⌜ r ≡ Outlines.in-range (now (ps .entry)) n ⌝ }
@@ -55,7 +49,7 @@ pub fn in_range(ps: &[f64], n: usize) -> bool
     let mut s = true;
     let mut k = 0;
     while k < 2 * n {
-        s = in_range_step(ps, k, s);
+        s = s & in_reach(ps[k]);
         k += 1;
     }
     s

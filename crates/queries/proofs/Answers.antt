@@ -17,8 +17,9 @@ use Rattle.queries.specs.declared.Footed.{Footed}
 use Rattle.queries.specs.declared.Neared.{Neared}
 use Rattle.queries.specs.declared.Edged.{Edged}
 use Rattle.near.specs.declared.Nearest.{Nearest}
-use Rattle.plane.specs.declared.NewArea.{NewArea}
-use Rattle.plane.specs.Points.{origin, area-if}
+use Rattle.areas.specs.declared.NewArea.{NewArea}
+use Rattle.plane.specs.Points.{origin}
+use Rattle.areas.specs.Areas.{area-if}
 use Prim.Native.Nat.{ℕ}
 use Rattle.queries.specs.Queries.{placed, measured, footed, neared, edged, within}
 

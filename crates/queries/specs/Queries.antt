@@ -10,7 +10,7 @@ use Rattle.error.specs.declared.Refusal.the-variants.{Granted}
 use Rattle.plane.specs.declared.PlanarPoint.{PlanarPoint}
 use Rattle.plane.specs.declared.Containment.{Containment}
 use Rattle.plane.specs.declared.Containment.the-variants.{Outside}
-use Rattle.plane.specs.declared.NewArea.{NewArea}
+use Rattle.areas.specs.declared.NewArea.{NewArea}
 use Rattle.near.specs.declared.Nearest.{Nearest}
 use Rattle.queries.specs.declared.Placed.{Placed}
 use Rattle.queries.specs.declared.Measured.{Measured}
@@ -20,7 +20,8 @@ use Rattle.queries.specs.declared.Edged.{Edged}
 use Rattle.math.specs.Number.{zero-float}
 use Rattle.math.specs.Number
 use Rattle.error.specs.Refusals.{granted}
-use Rattle.plane.specs.Points.{check-point, origin, area-if}
+use Rattle.plane.specs.Points.{check-point, origin}
+use Rattle.areas.specs.Areas.{area-if}
 use Rattle.ring.specs.Ring.{vertex-at, edge-end}
 use Rattle.measures.specs.Measures
 use Rattle.contain.specs.Contains.{ring-contains}

@@ -4,6 +4,7 @@ use Rattle.math.specs.Number.{open-number}
 use Rattle.hypotenuse.specs.Hypot.{open-hypot}
 use Rattle.plane.specs.Plane.{open-plane}
 use Rattle.plane.specs.Points.{open-points}
+use Rattle.areas.specs.Areas.{open-areas}
 use Rattle.segment.specs.Segments.{open-segments}
 use Rattle.error.specs.Refusals.{open-refusals}
 use Rattle.ring.specs.Ring.{open-ring}
@@ -34,5 +35,5 @@ use Rattle.region.specs.Insets.{open-insets}
 use Rattle.region.specs.Queries.{open-queries as open-region-queries}
 
 unfoldable pub open-everything : Unit {0}
-unfolding open-loop open-number open-hypot open-plane open-points open-segments open-refusals open-ring open-measures open-simple open-contains open-near open-meet open-checks open-store open-outlines open-writes open-queries open-lines open-edges open-tidying open-next-event open-splitting open-loading open-sweeps open-finished open-rings open-clear open-offsets open-regions open-region-checks open-insets open-region-queries
+unfolding open-loop open-number open-hypot open-plane open-points open-areas open-segments open-refusals open-ring open-measures open-simple open-contains open-near open-meet open-checks open-store open-outlines open-writes open-queries open-lines open-edges open-tidying open-next-event open-splitting open-loading open-sweeps open-finished open-rings open-clear open-offsets open-regions open-region-checks open-insets open-region-queries
 open-everything = tt

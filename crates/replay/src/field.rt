@@ -1,7 +1,7 @@
 // The fields of a line, byte by byte.
 
 // How many fields a line may have.
-pub(crate) const ROOM: usize = 704;
+pub(crate) const ROOM: usize = 1100;
 
 // How many fields of the line are whole, and of the one that is being read how many digits and their value; `sound` until a byte breaks a rule.
 pub(crate) struct Scan {

@@ -1,8 +1,8 @@
 // The kinds of questions that stand alone: an outline's numbers, two points, an area.
 use crate::parts;
+use areas::Area;
+use areas::NewArea;
 use error::Refusal;
-use plane::Area;
-use plane::NewArea;
 use plane::PlanarPoint;
 use polygon::Outline;
 use values::Carried;

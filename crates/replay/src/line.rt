@@ -1,6 +1,7 @@
 // Lines: bytes into fields, a whole line into its comparison.
 use crate::field::ROOM;
 use crate::field::Scan;
+use crate::holed;
 use crate::kinds;
 use crate::offsets;
 use crate::parts;
@@ -66,6 +67,9 @@ fn answered<'a>(kind: u64, answer: &'a [u64], words: &'a [u64], numbers: &'a [f6
         6 => kinds::point(answer, numbers),
         7 => kinds::area(answer, numbers),
         8 => offsets::offset(answer, words, numbers),
+        9 => holed::region(answer, words, numbers),
+        10 => holed::inset(answer, words, numbers),
+        11 => holed::within(answer, words, numbers),
         _ => false,
     }
 }
@@ -74,7 +78,7 @@ fn answered<'a>(kind: u64, answer: &'a [u64], words: &'a [u64], numbers: &'a [f6
 fn take_fields<'a>(t: Tally, fields: &'a [u64], numbers: &'a [f64], count: usize) -> Tally {
     let kind = parts::field_at(fields, 0);
     let given = parts::field_at(fields, 1) as usize;
-    if 8 < kind {
+    if 11 < kind {
         return t.with(UNREAD, false);
     }
     if ROOM < given {

@@ -1,7 +1,8 @@
-// Replays the reference's answers to questions about outlines, and says how many differ.
+// Replays the reference's answers to questions about outlines and regions, and says how many differ.
 //
 // A line of standard input has fields of 16 lower-case hexadecimal digits, parted by commas: the kind of question, how many fields of answer follow, the answer, the question.
 mod field;
+mod holed;
 mod kinds;
 mod line;
 mod offsets;

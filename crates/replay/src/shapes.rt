@@ -5,7 +5,7 @@ use error::Refusal;
 use plane::Containment;
 use plane::PlanarPoint;
 
-fn place(c: Containment) -> usize {
+pub(crate) fn place(c: Containment) -> usize {
     match c {
         Containment::Inside => 0,
         Containment::OnBoundary => 1,
@@ -13,7 +13,7 @@ fn place(c: Containment) -> usize {
     }
 }
 
-fn point_at(ps: &[f64], k: usize) -> PlanarPoint {
+pub(crate) fn point_at(ps: &[f64], k: usize) -> PlanarPoint {
     let rest = parts::numbers_from(ps, k, ps.len());
     PlanarPoint {
         east: ring::number_at(rest, 0),
@@ -22,13 +22,13 @@ fn point_at(ps: &[f64], k: usize) -> PlanarPoint {
 }
 
 // A point is in the two fields from k on.
-fn point_is(answer: &[u64], k: usize, p: PlanarPoint) -> bool {
+pub(crate) fn point_is(answer: &[u64], k: usize, p: PlanarPoint) -> bool {
     let rest = parts::fields_from(answer, k, answer.len());
     parts::float_is(rest, 0, p.east) & parts::float_is(rest, 1, p.north)
 }
 
 // The first field is the refusal's number.
-fn refusal_is(answer: &[u64], r: Refusal) -> bool {
+pub(crate) fn refusal_is(answer: &[u64], r: Refusal) -> bool {
     parts::whole_is(answer, 0, r.number())
 }
 
@@ -73,9 +73,9 @@ pub(crate) fn nearest<'a>(answer: &'a [u64], words: &'a [u64], numbers: &'a [f64
 pub(crate) fn measures<'a>(answer: &'a [u64], words: &'a [u64], numbers: &'a [f64]) -> bool {
     let n = parts::field_at(words, 0) as usize;
     let shape = parts::numbers_from(numbers, 1, numbers.len());
-    let made = queries::area(shape, n);
-    let perimeter = queries::perimeter(shape, n);
-    let extent = queries::extent(shape, n);
+    let made = sizes::area(shape, n);
+    let perimeter = sizes::perimeter(shape, n);
+    let extent = sizes::extent(shape, n);
     let area = made.area;
     let of_area = made.refusal;
     let of_perimeter = perimeter.refusal;
@@ -98,7 +98,7 @@ pub(crate) fn clearance<'a>(answer: &'a [u64], words: &'a [u64], numbers: &'a [f
     let cut = parts::least(parts::twice(n), both.len());
     let first = parts::numbers_from(both, 0, cut);
     let second = parts::numbers_from(both, cut, both.len());
-    let gap = queries::clearance(first, n, second, m);
+    let gap = sizes::clearance(first, n, second, m);
     let refusal = gap.refusal;
     refusal_is(answer, refusal) & parts::float_is(answer, 1, gap.value) & (answer.len() == 2)
 }
@@ -107,8 +107,8 @@ pub(crate) fn edge<'a>(answer: &'a [u64], words: &'a [u64], numbers: &'a [f64]) 
     let n = parts::field_at(words, 0) as usize;
     let k = parts::field_at(words, 1) as usize;
     let shape = parts::numbers_from(numbers, 2, numbers.len());
-    let edge = queries::edge(shape, n, k);
-    let vertex = queries::vertex(shape, n, k);
+    let edge = readers::edge(shape, n, k);
+    let vertex = readers::vertex(shape, n, k);
     let of_edge = edge.refusal;
     let of_vertex = vertex.refusal;
     let start = edge.start;

@@ -1,11 +1,11 @@
 // How many lines were compared and how many differ, by kind.
 
-// The place of lines that cannot be read, after the nine kinds.
-pub(crate) const UNREAD: usize = 9;
+// The place of lines that cannot be read, after the twelve kinds.
+pub(crate) const UNREAD: usize = 12;
 
 pub(crate) struct Tally {
-    pub compared: [u64; 10],
-    pub differ: [u64; 10],
+    pub compared: [u64; 13],
+    pub differ: [u64; 13],
 }
 
 fn one_more(n: u64) -> u64 {
@@ -16,15 +16,15 @@ fn sum(a: u64, b: u64) -> u64 {
     if a <= u64::MAX - b { a + b } else { u64::MAX }
 }
 
-fn at(counts: [u64; 10], k: usize) -> u64 {
-    if k < 10 { counts[k] } else { 0 }
+fn at(counts: [u64; 13], k: usize) -> u64 {
+    if k < 13 { counts[k] } else { 0 }
 }
 
 impl Tally {
     pub(crate) fn new() -> Tally {
         Tally {
-            compared: [0; 10],
-            differ: [0; 10],
+            compared: [0; 13],
+            differ: [0; 13],
         }
     }
 
@@ -32,7 +32,7 @@ impl Tally {
     pub(crate) fn with(self, kind: usize, same: bool) -> Tally {
         let mut compared = self.compared;
         let mut differ = self.differ;
-        if kind < 10 {
+        if kind < 13 {
             compared[kind] = one_more(compared[kind]);
             if !same {
                 differ[kind] = one_more(differ[kind]);
@@ -50,7 +50,7 @@ impl Tally {
         let mut all = 0;
         let mut wrong = 0;
         let mut k = 0;
-        while k < 10 {
+        while k < 13 {
             let here = at(compared, k);
             let bad = at(differ, k);
             print_row(k, here, bad);
@@ -58,7 +58,7 @@ impl Tally {
             wrong = sum(wrong, bad);
             k += 1;
         }
-        print_row(10, all, wrong);
+        print_row(13, all, wrong);
     }
 }
 
@@ -73,7 +73,10 @@ fn print_name(kind: usize) {
         6 => io::write_all(1, &[b'p', b'o', b'i', b'n', b't']),
         7 => io::write_all(1, &[b'a', b'r', b'e', b'a']),
         8 => io::write_all(1, &[b'o', b'f', b'f', b's', b'e', b't']),
-        9 => io::write_all(1, &[b'u', b'n', b'r', b'e', b'a', b'd']),
+        9 => io::write_all(1, &[b'r', b'e', b'g', b'i', b'o', b'n']),
+        10 => io::write_all(1, &[b'i', b'n', b's', b'e', b't']),
+        11 => io::write_all(1, &[b'w', b'i', b't', b'h', b'i', b'n']),
+        12 => io::write_all(1, &[b'u', b'n', b'r', b'e', b'a', b'd']),
         _ => io::write_all(1, &[b't', b'o', b't', b'a', b'l']),
     }
     ;

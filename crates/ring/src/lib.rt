@@ -27,9 +27,16 @@ pub fn number_at(ps: &[f64], i: usize) -> f64
     if i < ps.len() { ps[i] } else { math::nan() }
 }
 
+// One test where both numbers are there.
 pub fn vertex_at(ps: &[f64], k: usize) -> PlanarPoint
     ensures { λ r. ⌜ r ≡ Ring.vertex-at (now (ps .entry)) k ⌝ }
 {
+    if k < ps.len() / 2 {
+        return PlanarPoint {
+            east: ps[2 * k],
+            north: ps[2 * k + 1],
+        };
+    }
     if k < ps.len() {
         PlanarPoint {
             east: number_at(ps, 2 * k),

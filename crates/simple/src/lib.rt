@@ -28,7 +28,12 @@ pub(crate) fn segments_meet(
     if boxes::clear(d, e, l, h, b1, b2) {
         return false;
     }
-    segment::segments_meet(a1, a2, b1, b2)
+    let f = segment::orient(b1, b2, a1);
+    let g = segment::orient(b1, b2, a2);
+    if (f == 0.0) | ((g == 0.0) | ((d == 0.0) | (e == 0.0))) {
+        return segment::segments_meet(a1, a2, b1, b2);
+    }
+    segment::apart(f, g) & segment::apart(d, e)
 }
 
 // Edge i and the next are neighbours, and so are the first edge and the last; the pairs between are walked with their common values kept.

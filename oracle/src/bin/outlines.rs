@@ -1,28 +1,31 @@
-//! Questions about outlines from a seed, each with the reference's answer.
+//! Questions about outlines or regions from a seed, each with the reference's
+//! answer.
 //!
-//! `outlines SEED COUNT [--offsets] [--tally]`
+//! `outlines SEED COUNT [--offsets | --regions] [--tally]`
 
 use std::io::{self, BufWriter, Write};
 use std::process::ExitCode;
 
-use oracle::generate::{offset, question};
-use oracle::outlines::Tally;
+use oracle::generate::{offset, question, region};
+use oracle::outlines::{Question, Tally};
 
-const USAGE: &str = "usage: outlines SEED COUNT [--offsets] [--tally]";
+const USAGE: &str = "usage: outlines SEED COUNT [--offsets | --regions] [--tally]";
 
 struct Load {
     seed: u64,
     count: u64,
-    offsets: bool,
+    draw: fn(u64, u64) -> Question,
     tally: bool,
 }
 
 fn load() -> Option<Load> {
     let mut numbers = Vec::new();
-    let (mut offsets, mut tally) = (false, false);
+    let mut draw: fn(u64, u64) -> Question = question;
+    let mut tally = false;
     for word in std::env::args().skip(1) {
         match word.as_str() {
-            "--offsets" => offsets = true,
+            "--offsets" => draw = offset,
+            "--regions" => draw = region,
             "--tally" => tally = true,
             _ => numbers.push(word.parse().ok()?),
         }
@@ -33,7 +36,7 @@ fn load() -> Option<Load> {
     Some(Load {
         seed,
         count,
-        offsets,
+        draw,
         tally,
     })
 }
@@ -42,11 +45,7 @@ fn run(load: &Load) -> io::Result<()> {
     let mut output = BufWriter::with_capacity(1 << 16, io::stdout().lock());
     let mut tally = Tally::default();
     for index in 0..load.count {
-        let question = if load.offsets {
-            offset(load.seed, index)
-        } else {
-            question(load.seed, index)
-        };
+        let question = (load.draw)(load.seed, index);
         if load.tally {
             tally.add(&question);
         } else {

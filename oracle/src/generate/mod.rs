@@ -7,11 +7,13 @@ mod offsets;
 mod outlines;
 mod questions;
 mod rare;
+mod region_questions;
 mod regions;
 mod shape;
 
 pub use offsets::offset;
 pub use questions::question;
+pub use region_questions::region;
 
 use crate::draw::Draw;
 use crate::job::Job;

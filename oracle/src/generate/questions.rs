@@ -20,7 +20,7 @@ fn beside(draw: &mut Draw, x: f64) -> f64 {
 }
 
 /// Numbers that are not finite.
-fn not_finite(draw: &mut Draw) -> f64 {
+pub(super) fn not_finite(draw: &mut Draw) -> f64 {
     draw.pick(&[
         f64::NAN,
         -f64::NAN,
@@ -401,7 +401,7 @@ fn vertex(shape: &Shape, place: usize) -> Point {
 }
 
 /// A point that suits a shape: on it, beside it, level with it, far from it.
-fn suited_point(draw: &mut Draw, shape: &Shape) -> Point {
+pub(super) fn suited_point(draw: &mut Draw, shape: &Shape) -> Point {
     let count = (shape.numbers.len() / 2).max(1);
     let place = draw.below(count);
     let [a, b] = [vertex(shape, place), vertex(shape, (place + 1) % count)];

@@ -10,12 +10,12 @@ vertex-at-requires c κs = search needs
 load-outer-requires : tie.Need-load-outer-requires
 load-outer-requires c κs = search needs
 
-offset-rings-requires : tie.Need-offset-rings-requires
-offset-rings-requires c κs = search needs
+advance-requires : tie.Need-advance-requires
+advance-requires c κs = search needs
 
 returns : tie.Need-returns
-returns c = swept-from _ _ _ _ _ _ (c .before .before .before .before .before .vertex-at .ensures) (c .before .load-outer .ensures) (c .offset-rings .ensures)
+returns c = swept-from _ _ _ _ _ _ (c .before .before .before .before .before .vertex-at .ensures) (c .before .load-outer .ensures) (c .advance .ensures)
 
 pub sweep-spec : {M : Type 1} → statement M
 sweep-spec =
-    tie.close (tie.spec vertex-at-requires load-outer-requires offset-rings-requires returns)
+    tie.close (tie.spec vertex-at-requires load-outer-requires advance-requires returns)

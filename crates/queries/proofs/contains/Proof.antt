@@ -16,12 +16,12 @@ ask-ring-requires c κs = search needs
 granted-requires : tie.Need-granted-requires
 granted-requires c κs = search needs
 
-ring-contains-requires : tie.Need-ring-contains-requires
-ring-contains-requires c κs = search needs
+place-of-requires : tie.Need-place-of-requires
+place-of-requires c κs = search needs
 
 returns : tie.Need-returns
 unfolding Queries.contains
-returns c = placed-yes _ _ (c .before .before .before .ask-ring .ensures ∙ ap (ask-ring _ _) (c .before .before .before .before .check .ensures)) _ _ (c .ring-contains .ensures) (sym (c .before .before .granted .ensures) ∙ c .before .if1 .taken)
+returns c = placed-yes _ _ (c .before .before .before .ask-ring .ensures ∙ ap (ask-ring _ _) (c .before .before .before .before .check .ensures)) _ _ (c .place-of .ensures) (sym (c .before .before .granted .ensures) ∙ c .before .if1 .taken)
 
 returns-2 : tie.Need-returns-2
 unfolding Queries.contains
@@ -34,6 +34,6 @@ contains-spec =
     check-requires
     ask-ring-requires
     granted-requires
-    ring-contains-requires
+    place-of-requires
     returns
     returns-2)

@@ -5,10 +5,10 @@ use Rattle.replay.proofs.tally.Tally.print.Statement.{statement}
 use Rattle.replay.proofs.tally.Tally.print.Tie as tie
 
 abbrev Inv-loop : tie.InvT-loop
-Inv-loop compared differ all₀ wrong₀ k₀ all wrong k = k ≤ 10
+Inv-loop compared differ all₀ wrong₀ k₀ all wrong k = k ≤ 13
 
 abbrev μ-loop : tie.MeasureT-loop
-μ-loop compared differ all₀ wrong₀ k₀ all wrong k = 10 - k
+μ-loop compared differ all₀ wrong₀ k₀ all wrong k = 13 - k
 
 loop-holds : tie.Need-loop-holds Inv-loop μ-loop
 loop-holds c = search needs

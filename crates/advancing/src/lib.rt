@@ -1,0 +1,227 @@
+// The main loop of an offset on one array: a front is tidied and its edges collapse where they are, and it is copied only where it splits.
+ghost use mathlib.Core.Path.{_≡_};
+ghost use mathlib.Core.Bool.{cond};
+ghost use lib.Dec.{ltb};
+ghost use lib.ListN.{length};
+ghost use Rattle.front.specs.NextEvent;
+ghost use Rattle.front.specs.Sweeps;
+ghost use Rattle.sweeping.specs.Turning;
+ghost use Rattle.sweeping.specs.declared.Plan.the-variants.{End};
+ghost use Rattle.front.specs.declared.Tidy.the-variants.{Settled};
+ghost use Rattle.advancing.specs.Acts;
+use error::Refusal;
+use front::Edge;
+use front::Loaded;
+use front::Sweep;
+use front::Tidy;
+use front::Vertex;
+use sweeping::Plan;
+
+// What is done with the front: it is refused, or has come to the distance; an edge collapses, by an event or by tidying, itself or its next; the front splits; tidying takes
+// something else out.
+pub enum Act {
+    Stop,
+    Finish,
+    Shrink(usize, f64, bool, bool),
+    Cut(usize, usize, f64),
+    Other(Tidy),
+}
+
+// How many slots a front has. Nothing is copied for it.
+pub fn slots(edges: [Edge; 128]) -> usize
+    ensures { λ r. ⌜ (r ≡ 128) × (length edges ≡ 128) ⌝ }
+{
+    128
+}
+
+// What a plan does.
+pub fn act_by(p: Plan) -> Act
+    ensures { λ r. ⌜ r ≡ Acts.act-by p ⌝ }
+{
+    match p {
+        Plan::Refuse => Act::Stop,
+        Plan::End => Act::Finish,
+        Plan::TakeCollapse(slot, t) => Act::Shrink(slot, t, true, false),
+        Plan::TakeSplit(v, w, t) => Act::Cut(v, w, t),
+    }
+}
+
+// Tidying ends after 129 steps, whatever is found.
+pub fn in_steps(m: usize, found: Tidy) -> Tidy
+    ensures { λ r. ⌜ r ≡ cond (ltb m 129) found Settled ⌝ }
+{
+    if m < 129 { found } else { Tidy::Settled }
+}
+
+// What is planned, if the front is tidied.
+pub fn plan_if(tidied: bool, d: f64, travelled: f64, edges: [Edge; 128]) -> Plan
+    ensures { λ r. ⌜ r ≡ cond tidied (Turning.plan-of d travelled (NextEvent.next-event edges travelled)) End ⌝ }
+{
+    if tidied {
+        let event = events::next_event(edges, travelled);
+        sweeping::plan_of(d, travelled, event)
+    } else {
+        Plan::End
+    }
+}
+
+// What is done, by what tidying finds, or else by the plan.
+pub fn act_of(travelled: f64, found: Tidy, p: Plan) -> Act
+    ensures { λ r. ⌜ r ≡ Acts.act-of travelled found p ⌝ }
+{
+    match found {
+        Tidy::Settled => act_by(p),
+        Tidy::SmallRing(slot) => Act::Other(Tidy::SmallRing(slot)),
+        Tidy::Straight(slot) => Act::Shrink(slot, travelled, false, true),
+        Tidy::Spike(slot) => Act::Other(Tidy::Spike(slot)),
+        Tidy::Empty(slot) => Act::Shrink(slot, travelled, false, false),
+    }
+}
+
+// The front of the loaded rings at distance d, and the events on the way. Where it is refused, no front is left.
+pub fn advance(d: f64, l: Loaded) -> Sweep
+    ensures { λ s. ⌜ s ≡ Acts.cleared (Sweeps.offset-rings d l) ⌝ }
+{
+    let mut edges = l.edges;
+    let mut travelled = 0.0;
+    let mut collapses = 0usize;
+    let mut divides = 0usize;
+    let mut joins = 0usize;
+    let start = l.refusal;
+    if !start.granted() {
+        return Sweep {
+            edges: [Edge::UNUSED; 128],
+            travelled,
+            collapses,
+            divides,
+            joins,
+            ended: false,
+            refusal: start,
+        };
+    }
+    let mut k = 0usize;
+    let mut m = 0usize;
+    while k < 387 {
+        // what it ensures is used: a store out of the front is left out
+        let room = slots(edges);
+        let found = in_steps(m, tidying::find_tidy(edges, travelled));
+        let plan = plan_if(tidying::settled(found), d, travelled, edges);
+        let act = act_of(travelled, found, plan);
+        match act {
+            Act::Stop => {
+                return Sweep {
+                    edges: [Edge::UNUSED; 128],
+                    travelled,
+                    collapses,
+                    divides,
+                    joins,
+                    ended: false,
+                    refusal: Refusal::Splits(d),
+                };
+            }
+            Act::Finish => {
+                return Sweep {
+                    edges,
+                    travelled,
+                    collapses,
+                    divides,
+                    joins,
+                    ended: true,
+                    refusal: Refusal::Granted,
+                };
+            }
+            Act::Shrink(at, t, event, following) => {
+                let a = lines::edge_or(at < 128, edges[edges::within(at)]);
+                let slot = ring::choose(following, a.next, at);
+                let e = lines::edge_or(slot < 128, edges[edges::within(slot)]);
+                let next = e.next;
+                let n = lines::edge_or(next < 128, edges[edges::within(next)]);
+                let back = n.previous;
+                let b = lines::edge_or(back < 128, edges[edges::within(back)]);
+                let v = lines::vertex_by(b.line, n, t);
+                match v {
+                    Vertex::NoVertex => {
+                        return Sweep {
+                            edges: [Edge::UNUSED; 128],
+                            travelled,
+                            collapses,
+                            divides,
+                            joins,
+                            ended: false,
+                            refusal: Refusal::Splits(d),
+                        };
+                    }
+                    Vertex::Moving(p, _) => {
+                        let h = edges::within(next);
+                        let anchored = edges[h];
+                        edges[h] = edges::start_if(next < 128, anchored, p, t);
+                        let gone = lines::edge_or(slot < 128, edges[edges::within(slot)]);
+                        let before = gone.previous;
+                        let after = gone.next;
+                        let i = edges::within(before);
+                        let first = edges[i];
+                        edges[i] = edges::next_if(before < 128, first, after);
+                        let j = edges::within(after);
+                        let last = edges[j];
+                        edges[j] = edges::previous_if(after < 128, last, before);
+                        let o = edges::within(slot);
+                        let own = edges[o];
+                        edges[o] = edges::dead_if(slot < 128, own);
+                        travelled = t;
+                        collapses += ring::choose(event, 1, 0);
+                        m = ring::choose(event, 0, m + 1);
+                        k += ring::choose(event, 1, 0);
+                    }
+                }
+            }
+            Act::Cut(v, w, t) => {
+                let done = splitting::split(d, edges, travelled, v, w, t);
+                let refusal = done.refusal;
+                if !refusal.granted() {
+                    return Sweep {
+                        edges: [Edge::UNUSED; 128],
+                        travelled,
+                        collapses,
+                        divides,
+                        joins,
+                        ended: false,
+                        refusal,
+                    };
+                }
+                let changed = done.edges;
+                edges = changed;
+                travelled = done.travelled;
+                divides += done.divides;
+                joins += done.joins;
+                m = 0;
+                k += 1;
+            }
+            Act::Other(found) => {
+                let done = tidying::tidy_by(edges, travelled, found);
+                if done.stalled {
+                    return Sweep {
+                        edges: [Edge::UNUSED; 128],
+                        travelled,
+                        collapses,
+                        divides,
+                        joins,
+                        ended: false,
+                        refusal: Refusal::Splits(d),
+                    };
+                }
+                let changed = done.edges;
+                edges = changed;
+                m += 1;
+            }
+        }
+    }
+    Sweep {
+        edges: [Edge::UNUSED; 128],
+        travelled,
+        collapses,
+        divides,
+        joins,
+        ended: false,
+        refusal: Refusal::Unfinished(387, d - travelled),
+    }
+}

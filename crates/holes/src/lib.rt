@@ -1,0 +1,95 @@
+// A region handed in: the numbers and the count of its outer ring, the flat numbers of its holes, their counts, and how many holes there are.
+ghost use mathlib.Core.Path.{_≡_};
+ghost use Prim.Native.Nat.{_*_};
+ghost use lib.ListN.{getD, drop};
+ghost use Rattle.region.specs.Regions;
+ghost use Rattle.region.specs.Checks;
+ghost use Rattle.region.specs.Queries;
+ghost use Rattle.holes.specs.Given;
+use error::Refusal;
+use polygon::entry;
+use region::Region;
+
+// How many vertices hole k has.
+pub fn count_at(cs: &[usize], k: usize) -> usize
+    ensures { λ r. ⌜ r ≡ getD (now (cs .entry)) k 0 ⌝ }
+{
+    if k < cs.len() { cs[k] } else { 0 }
+}
+
+// The numbers from hole k on.
+pub fn hole_points<'a>(qs: &'a [f64], k: usize) -> &'a [f64]
+    ensures { λ r. ⌜ now r ≡ drop (64 * k) (now (qs .entry)) ⌝ }
+{
+    if k <= qs.len() / 64 {
+        let at = 64 * k;
+        &qs[at..]
+    } else {
+        &qs[..0]
+    }
+}
+
+pub fn no_region() -> Region
+    ensures { λ r. ⌜ r ≡ Regions.no-region ⌝ }
+{
+    Region {
+        outer: polygon::store::no_outline(),
+        points: [0.0; 512],
+        counts: [0; 8],
+        holes: 0,
+    }
+}
+
+// Question 21 of one hole.
+pub fn proper_hole<'a>(qs: &'a [f64], cs: &'a [usize], k: usize) -> bool
+    ensures { λ r. ⌜ r ≡ Given.proper-hole (now (qs .entry)) (now (cs .entry)) k ⌝ }
+{
+    let n = count_at(cs, k);
+    let hole = hole_points(qs, k);
+    entry::proper(32, hole, n)
+}
+
+// Question 21 of the first h holes. A hole that is not there has no vertices.
+pub fn proper_holes<'a>(qs: &'a [f64], cs: &'a [usize], h: usize) -> bool
+    ensures { λ r. ⌜ r ≡ Given.proper-holes (now (qs .entry)) (now (cs .entry)) h ⌝ }
+{
+    let mut k = 0;
+    while k < h {
+        if !proper_hole(qs, cs, k) {
+            return false;
+        }
+        k += 1;
+    }
+    true
+}
+
+// Question 21 of a region.
+pub fn proper_region<'a>(ps: &'a [f64], n: usize, qs: &'a [f64], cs: &'a [usize], h: usize) -> bool
+    ensures { λ r. ⌜
+        r ≡ Checks.proper-region (Given.region-of (now (ps .entry)) n (now (qs .entry)) (now (cs .entry)) h)
+        ⌝ }
+{
+    if 8 < h {
+        return false;
+    }
+    if !entry::proper(128, ps, n) {
+        return false;
+    }
+    proper_holes(qs, cs, h)
+}
+
+// 21 is asked first of a region that is handed in.
+pub fn ask_region<'a>(
+    ps: &'a [f64],
+    n: usize,
+    qs: &'a [f64],
+    cs: &'a [usize],
+    h: usize,
+    r: Refusal,
+) -> Refusal
+    ensures { λ x. ⌜
+        x ≡ Queries.ask-region (Given.region-of (now (ps .entry)) n (now (qs .entry)) (now (cs .entry)) h) r
+        ⌝ }
+{
+    error::choose(proper_region(ps, n, qs, cs, h), r, Refusal::Shape)
+}

@@ -1,0 +1,4 @@
+pub mod Takes
+pub mod Heads
+pub mod Parses
+pub mod Held

@@ -1,0 +1,39 @@
+-- `region_c::inset_into` meets its contract. Assumes nothing.
+use mathlib.Core.Path.{sym, _∙_}
+use Rattle.region_c.proofs.Made.{inset-yes, inset-no}
+use borrow.Author.Needs.{needs}
+use Rattle.region_c.proofs.inset_into.Statement.{statement}
+use Rattle.region_c.proofs.inset_into.Tie as tie
+
+new-requires : tie.Need-new-requires
+new-requires c κs = search needs
+
+granted-requires : tie.Need-granted-requires
+granted-requires c κs = search needs
+
+inset-into-requires : tie.Need-inset-into-requires
+inset-into-requires c κs = search needs
+
+inset-refused-requires : tie.Need-inset-refused-requires
+inset-refused-requires c κs = search needs
+
+same-length : tie.Need-same-length
+same-length c = search needs
+
+returns : tie.Need-returns
+returns c = inset-yes _ _ (c .before .before .before .before .before .before .before .new .ensures .0) _ _ _ _ (sym (c .before .before .before .before .before .before .granted .ensures) ∙ c .before .before .before .before .before .if1 .taken) (c .before .before .inset-into .ensures .0) (c .before .before .inset-into .ensures .1)
+
+returns-2 : tie.Need-returns-2
+returns-2 c = inset-no _ _ (c .before .before .before .new .ensures .0) _ _ _ (sym (c .before .before .granted .ensures) ∙ c .before .if1 .left) (c .inset-refused .ensures)
+
+pub inset-into-spec : {M : Type 1} → statement M
+inset-into-spec =
+    tie.close
+    (tie.spec
+    new-requires
+    granted-requires
+    inset-into-requires
+    inset-refused-requires
+    same-length
+    returns
+    returns-2)

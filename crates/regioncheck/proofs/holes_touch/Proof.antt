@@ -1,0 +1,40 @@
+-- `regioncheck::holes_touch` meets its contract. Assumes nothing.
+use Rattle.regioncheck.proofs.Walks.{edges-touch, one-holds}
+use borrow.Author.Needs.{needs}
+use Rattle.regioncheck.proofs.holes_touch.Statement.{statement}
+use Rattle.regioncheck.proofs.holes_touch.Tie as tie
+
+rings-meet-requires : tie.Need-rings-meet-requires
+rings-meet-requires c κs = search needs
+
+returns : tie.Need-returns
+returns c = edges-touch _ _ _ _ _ (c .before .rings-meet .ensures) (c .if1 .taken)
+
+vertex-at-requires : tie.Need-vertex-at-requires
+vertex-at-requires c κs = search needs
+
+vertex-at-requires-2 : tie.Need-vertex-at-requires-2
+vertex-at-requires-2 c κs = search needs
+
+outside-of-requires : tie.Need-outside-of-requires
+outside-of-requires c κs = search needs
+
+outside-of-requires-2 : tie.Need-outside-of-requires-2
+outside-of-requires-2 c κs = search needs
+
+returns-2 : tie.Need-returns-2
+returns-2 c =
+    one-holds _ _ _ _ _ (c .before .before .before .before .before .rings-meet .ensures) (c .before .before .before .before .if1 .left) _ _ _ _ (c .before .before .before .vertex-at .ensures) (c .before .before .vertex-at2 .ensures) (c .before .outside-of .ensures)
+    (c .outside-of2 .ensures)
+
+pub holes-touch-spec : {M : Type 1} → statement M
+holes-touch-spec =
+    tie.close
+    (tie.spec
+    rings-meet-requires
+    returns
+    vertex-at-requires
+    vertex-at-requires-2
+    outside-of-requires
+    outside-of-requires-2
+    returns-2)

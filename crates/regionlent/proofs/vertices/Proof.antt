@@ -1,0 +1,44 @@
+-- `regionlent::vertices` meets its contract. Assumes nothing.
+use Prim.Native.Nat.{_+_, _-_, _≤_}
+use mathlib.Core.Path.{_≡_, sym}
+use Rattle.loops.proofs.Laws.{no-round, ends}
+use Rattle.regionrings.specs.Rings.{before-of}
+use Rattle.regionlent.proofs.Laws.{before-on, sum-bound}
+use borrow.Author.Needs.{needs}
+use Rattle.regionlent.proofs.vertices.Statement.{statement}
+use Rattle.regionlent.proofs.vertices.Tie as tie
+
+abbrev Inv-loop : tie.InvT-loop
+Inv-loop n cs h s₀ k₀ s k = (k ≤ h + 1) × (s ≡ before-of n cs k)
+
+abbrev μ-loop : tie.MeasureT-loop
+μ-loop n cs h s₀ k₀ s k = h + 1 - k
+
+loop-holds : tie.Need-loop-holds Inv-loop μ-loop
+unfolding before-of
+loop-holds c = (search needs, sym (no-round _ _))
+
+add-loop : tie.Need-add-loop Inv-loop μ-loop
+add-loop c = search needs
+
+ring-count-requires : tie.Need-ring-count-requires Inv-loop μ-loop
+ring-count-requires c κs = search needs
+
+add-s : tie.Need-add-s Inv-loop μ-loop
+add-s c = let l : c .before .before .loop .s + c .ring-count .result ≤ 1280 = sum-bound _ _ _ (c .before .before .before .before .pre) _ _ _ (c .before .loop-test .taken) (c .before .before .loop .inv .1) (c .ring-count .ensures) in search needs
+
+add-k : tie.Need-add-k Inv-loop μ-loop
+add-k c = search needs
+
+loop-less : tie.Need-loop-less Inv-loop μ-loop
+loop-less c = search needs
+
+loop-again : tie.Need-loop-again Inv-loop μ-loop
+loop-again c = (search needs, before-on _ _ _ _ (c .ring-count .ensures) _ (c .before .before .loop .inv .1))
+
+returns : tie.Need-returns Inv-loop μ-loop
+unfolding before-of
+returns c = ends _ _ _ _ _ (c .before .loop .inv .0) (c .loop-test .left) (c .before .loop .inv .1)
+
+pub vertices-spec : {M : Type 1} → statement M
+vertices-spec = tie.close (tie.spec Inv-loop μ-loop loop-holds add-loop ring-count-requires add-s add-k loop-less loop-again returns)

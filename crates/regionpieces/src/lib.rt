@@ -1,0 +1,70 @@
+// The pieces of a region's inset: what the finished rings of its front come to.
+ghost use mathlib.Core.Path.{_≡_};
+ghost use Rattle.region.specs.Insets;
+use error::Refusal;
+use front::Edge;
+use offset::Piece;
+use plane::PlanarPoint;
+use region::Region;
+use region::RegionPieces;
+
+// A ring starts at the first live slot that no ring before it has passed. One whose area is above 0 is the outer one, any other is a hole; the first refusal ends it.
+pub fn region_pieces(
+    edges: [Edge; 128],
+    origin: PlanarPoint,
+    d: f64,
+    tolerance: f64,
+) -> RegionPieces
+    ensures { λ r. ⌜ r ≡ Insets.region-pieces edges origin d tolerance ⌝ }
+{
+    let mut found = false;
+    let mut ring = polygon::store::no_outline();
+    let mut points = [0.0; 512];
+    let mut counts = [0; 8];
+    let mut held = 0;
+    let mut place = 0;
+    let mut seen = [false; 128];
+    let mut first = 0;
+    while first < 128 {
+        let slot = first;
+        first += 1;
+        let e = edges[slot];
+        if e.alive & !seen[slot] {
+            let w = finishing::walk(edges, d, origin, slot, seen);
+            let outer = 0.0 < measures::signed_area(&w.points, w.count);
+            let room = ring::choose(outer, 128, 32);
+            let piece = pieces::offset_piece(room, place, d, tolerance, w.lost, &w.points, w.count);
+            seen = w.seen;
+            place += 1;
+            match piece {
+                Piece::Shrunk => {}
+                Piece::Failed(r) => return regionstore::region_pieces_refused(r),
+                Piece::Whole(n, back) => {
+                    let r = regionstore::place_refusal(d, outer, found, held);
+                    if !r.granted() {
+                        return regionstore::region_pieces_refused(r);
+                    }
+                    if outer {
+                        let stored = polygon::store::stored_outline(&w.points, n, back);
+                        ring = stored;
+                        found = true;
+                    } else {
+                        regionstore::file_ring(&w.points, n, back, 32 * held, &mut points);
+                        counts[held] = n;
+                        held += 1;
+                    }
+                }
+            }
+        }
+    }
+    RegionPieces {
+        refusal: Refusal::Granted,
+        found: found,
+        shape: Region {
+            outer: ring,
+            points: points,
+            counts: counts,
+            holes: held,
+        },
+    }
+}

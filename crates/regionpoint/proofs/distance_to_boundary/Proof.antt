@@ -1,0 +1,18 @@
+-- `regionpoint::distance_to_boundary` meets its contract. Assumes nothing.
+use mathlib.Core.Path.{ap}
+use Rattle.near.specs.declared.Nearest.{Nearest}
+use Rattle.region.specs.Regions
+use Rattle.regionpoint.specs.Gaps.{gap-from}
+use borrow.Author.Needs.{needs}
+use Rattle.regionpoint.proofs.distance_to_boundary.Statement.{statement}
+use Rattle.regionpoint.proofs.distance_to_boundary.Tie as tie
+
+region-nearest-requires : tie.Need-region-nearest-requires
+region-nearest-requires c κs = search needs
+
+returns : tie.Need-returns
+unfolding gap-from Regions.distance-to-boundary
+returns c = ap (λ (x : Nearest). x .gap) (c .region-nearest .ensures)
+
+pub distance-to-boundary-spec : {M : Type 1} → statement M
+distance-to-boundary-spec = tie.close (tie.spec region-nearest-requires returns)

@@ -1,0 +1,30 @@
+-- `regionqueries::distance_to_boundary` meets its contract. Assumes nothing.
+use mathlib.Core.Path.{sym, ap, _∙_}
+use Rattle.region.specs.Queries
+use Rattle.queries.proofs.Answers.{measured-yes, measured-no}
+use borrow.Author.Needs.{needs}
+use Rattle.regionqueries.proofs.distance_to_boundary.Statement.{statement}
+use Rattle.regionqueries.proofs.distance_to_boundary.Tie as tie
+
+check-requires : tie.Need-check-requires
+check-requires c κs = search needs
+
+ask-region-requires : tie.Need-ask-region-requires
+ask-region-requires c κs = search needs
+
+granted-requires : tie.Need-granted-requires
+granted-requires c κs = search needs
+
+distance-to-boundary-requires : tie.Need-distance-to-boundary-requires
+distance-to-boundary-requires c κs = search needs
+
+returns : tie.Need-returns
+unfolding Queries.region-distance
+returns c = measured-yes _ _ (c .before .before .before .ask-region .ensures ∙ ap (Queries.ask-region _) (c .before .before .before .before .check .ensures)) _ _ (c .distance-to-boundary .ensures) (sym (c .before .before .granted .ensures) ∙ c .before .if1 .taken)
+
+returns-2 : tie.Need-returns-2
+unfolding Queries.region-distance
+returns-2 c = measured-no _ _ (c .before .before .ask-region .ensures ∙ ap (Queries.ask-region _) (c .before .before .before .check .ensures)) _ (sym (c .before .granted .ensures) ∙ c .if1 .left)
+
+pub distance-to-boundary-spec : {M : Type 1} → statement M
+distance-to-boundary-spec = tie.close (tie.spec check-requires ask-region-requires granted-requires distance-to-boundary-requires returns returns-2)

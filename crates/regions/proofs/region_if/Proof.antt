@@ -1,0 +1,24 @@
+-- `regions::region_if` meets its contract. Assumes nothing.
+use mathlib.Core.Path.{refl, sym, _∙_}
+use Rattle.ring.proofs.Choices.{yes, no}
+use Rattle.region.specs.Checks
+use borrow.Author.Needs.{needs}
+use Rattle.regions.proofs.region_if.Statement.{statement}
+use Rattle.regions.proofs.region_if.Tie as tie
+
+granted-requires : tie.Need-granted-requires
+granted-requires c κs = search needs
+
+region-refused-requires : tie.Need-region-refused-requires
+region-refused-requires c κs = search needs
+
+returns : tie.Need-returns
+unfolding Checks.region-if
+returns c = yes _ _ _ _ refl (sym (c .before .granted .ensures) ∙ c .if1 .taken)
+
+returns-2 : tie.Need-returns-2
+unfolding Checks.region-if
+returns-2 c = no _ _ _ _ (c .region-refused .ensures) (sym (c .before .before .granted .ensures) ∙ c .before .if1 .left)
+
+pub region-if-spec : {M : Type 1} → statement M
+region-if-spec = tie.close (tie.spec granted-requires region-refused-requires returns returns-2)

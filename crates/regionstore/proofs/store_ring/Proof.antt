@@ -1,0 +1,98 @@
+-- `regionstore::store_ring` meets its contract. Assumes nothing.
+use borrow.Author.Needs.{needs}
+use native.Mathlib.Omega.{arith}
+use Prim.Native.Nat.{_-_, _≤_}
+use mathlib.Core.Path.{_≡_, refl, sym}
+use lib.ListN.{length}
+use Rattle.loops.specs.Loop.{rounds}
+use Rattle.loops.proofs.Laws.{no-round, goes-on, ends}
+use Rattle.ring.specs.Store.{store-step, stored}
+use Rattle.regionstore.proofs.Filed.{slot-fits, second-in, filed-in, filed-out}
+use Rattle.regionstore.proofs.store_ring.Statement.{statement}
+use Rattle.regionstore.proofs.store_ring.Tie as tie
+
+abbrev Inv-loop : tie.InvT-loop
+Inv-loop ps n back base out₀ k₀ out k = (k ≤ n) × (length out ≡ 512) × (out ≡ rounds (store-step ps n back base) k out₀)
+
+abbrev μ-loop : tie.MeasureT-loop
+μ-loop ps n back base out₀ k₀ out k = n - k
+
+loop-holds : tie.Need-loop-holds Inv-loop μ-loop
+loop-holds c = (search needs, search needs, sym (no-round _ _))
+
+stored-at-requires : tie.Need-stored-at-requires Inv-loop μ-loop
+stored-at-requires c κs = search needs
+
+choose-requires : tie.Need-choose-requires Inv-loop μ-loop
+choose-requires c κs = search needs
+
+add-slot : tie.Need-add-slot Inv-loop μ-loop
+add-slot c = omega (arith, slot-fits _ (c .before .before .before .loop .k) _ (c .before .before .before .before .before .before .pre .0) (c .choose .ensures))
+
+add-k : tie.Need-add-k Inv-loop μ-loop
+add-k c = search needs
+
+mul-out : tie.Need-mul-out Inv-loop μ-loop
+mul-out c = search needs
+
+mul-out-2 : tie.Need-mul-out-2 Inv-loop μ-loop
+mul-out-2 c = search needs
+
+slice-write-out : tie.Need-slice-write-out Inv-loop μ-loop
+slice-write-out c = search needs
+
+mul-out-3 : tie.Need-mul-out-3 Inv-loop μ-loop
+mul-out-3 c = search needs
+
+add-out : tie.Need-add-out Inv-loop μ-loop
+add-out c = search needs
+
+mul-out-4 : tie.Need-mul-out-4 Inv-loop μ-loop
+mul-out-4 c = search needs
+
+slice-write-out-2 : tie.Need-slice-write-out-2 Inv-loop μ-loop
+slice-write-out-2 c = search (needs, second-in (c .before .before .before .before .loop .out) _ (c .before .before .before .before .loop .inv .1) (c .if1 .taken))
+
+loop-less : tie.Need-loop-less Inv-loop μ-loop
+loop-less c = search needs
+
+loop-again : tie.Need-loop-again Inv-loop μ-loop
+loop-again c = (search needs, search needs, goes-on _ _ _ _ _ (c .before .before .before .before .loop .inv .2) (filed-in _ _ _ _ _ _ _ _ (c .before .choose .ensures) refl _ (c .if1 .taken) (c .before .before .stored-at .ensures)))
+
+loop-less-2 : tie.Need-loop-less-2 Inv-loop μ-loop
+loop-less-2 c = search needs
+
+loop-again-2 : tie.Need-loop-again-2 Inv-loop μ-loop
+loop-again-2 c = (search needs, c .before .before .before .before .loop .inv .1, goes-on _ _ _ _ _ (c .before .before .before .before .loop .inv .2) (filed-out _ _ _ _ _ _ _ _ (c .before .choose .ensures) refl (c .before .before .before .before .loop .inv .1) (c .if1 .left)))
+
+same-length : tie.Need-same-length Inv-loop μ-loop
+same-length c = search needs
+
+returns : tie.Need-returns Inv-loop μ-loop
+unfolding stored
+returns c = ends _ _ _ _ _ (c .before .loop .inv .0) (c .loop-test .left) (c .before .loop .inv .2)
+
+pub store-ring-spec : {M : Type 1} → statement M
+store-ring-spec =
+    tie.close
+    (tie.spec
+    Inv-loop
+    μ-loop
+    loop-holds
+    stored-at-requires
+    choose-requires
+    add-slot
+    add-k
+    mul-out
+    mul-out-2
+    slice-write-out
+    mul-out-3
+    add-out
+    mul-out-4
+    slice-write-out-2
+    loop-less
+    loop-again
+    loop-less-2
+    loop-again-2
+    same-length
+    returns)

@@ -1,0 +1,140 @@
+-- `ringload::load_holes` meets its contract. Assumes nothing.
+use borrow.Author.Needs.{needs}
+use Prim.Native.Nat.{_+_, _-_, _*_, _≤_}
+use native.Mathlib.Omega.{arith}
+use mathlib.Core.Path.{_≡_, sym, _∙_}
+use mathlib.Core.Bool.{true}
+use borrow.Author.Tests.{not-true, not-false}
+use lib.ListN.{length}
+use Rattle.error.specs.declared.Refusal.the-variants.{Granted}
+use Rattle.holes.proofs.Parts.{part-from}
+use Rattle.ringload.specs.Loads
+use Rattle.ringload.proofs.Sums.{sum-of, one-ring, next-ring, some-ring, there, next-there}
+use Rattle.ringload.proofs.Rings.{loading, none-loaded, ring-loaded, ring-refused, all-loaded}
+use Rattle.ringload.proofs.load_holes.Statement.{statement}
+use Rattle.ringload.proofs.load_holes.Tie as tie
+
+abbrev Inv-loop : tie.InvT-loop
+Inv-loop lengths ps outer points₀ counts₀ start₀ last k₀ points counts start k =
+    (k ≤ last) × (last ≡ length lengths - 1) × (Loads.lengths-fit lengths ps ≡ true) × (start ≡ sum-of lengths (k + 1)) × (2 * start ≤ length ps) ×
+    (loading lengths ps outer k ≡ Loads.loaded Granted outer points counts k start)
+
+abbrev μ-loop : tie.MeasureT-loop
+μ-loop lengths ps outer points₀ counts₀ start₀ last k₀ points counts start k = last - k
+
+count-at-requires : tie.Need-count-at-requires Inv-loop μ-loop
+count-at-requires c κs = search needs
+
+less-requires : tie.Need-less-requires Inv-loop μ-loop
+less-requires c κs = search needs
+
+loop-holds : tie.Need-loop-holds Inv-loop μ-loop
+loop-holds c =
+    let first = c .before .count-at .ensures ∙ sym (one-ring _) in
+    let fit = c .before .before .before .before .pre in (
+      search needs,
+      c .less .ensures,
+      fit,
+      first,
+      there _ _ fit 1 _ (some-ring _ _ fit) first,
+      none-loaded _ _ _ _ (c .before .count-at .ensures),
+    )
+
+add-place : tie.Need-add-place Inv-loop μ-loop
+add-place c = search needs
+
+count-at-requires-2 : tie.Need-count-at-requires-2 Inv-loop μ-loop
+count-at-requires-2 c κs = search needs
+
+mul-from : tie.Need-mul-from Inv-loop μ-loop
+mul-from c = search needs
+
+mul-part : tie.Need-mul-part Inv-loop μ-loop
+mul-part c = search needs
+
+sub-part : tie.Need-sub-part Inv-loop μ-loop
+sub-part c = search needs
+
+part-part-start : tie.Need-part-part-start Inv-loop μ-loop
+part-part-start c = search needs
+
+part-part-end : tie.Need-part-part-end Inv-loop μ-loop
+part-part-end c = search needs
+
+check-ring-requires : tie.Need-check-ring-requires Inv-loop μ-loop
+check-ring-requires c κs = search needs
+
+granted-requires : tie.Need-granted-requires Inv-loop μ-loop
+granted-requires c κs = search needs
+
+loaded-requires : tie.Need-loaded-requires Inv-loop μ-loop
+loaded-requires c κs = search needs
+
+returns : tie.Need-returns Inv-loop μ-loop
+returns c =
+    c .loaded .ensures ∙
+    ring-refused _ _ _ _ _ _ _ (c .before .before .before .before .before .before .before .loop .inv .5) _ (c .before .before .before .before .before .count-at2 .ensures) _ (part-from (c .before .before .before .before .before .before .before .before .before .before .before .before .args .ps .now) (2 * c .before .before .before .before .before .before .before .loop .start)) _ (c .before .before .before .check-ring .ensures)
+    (omega (arith, c .before .before .before .before .before .before .before .loop .inv .1, c .before .before .before .before .before .before .loop-test .taken)) (sym (c .before .before .granted .ensures) ∙ not-true _ (c .before .if1 .taken))
+
+store-hole-requires : tie.Need-store-hole-requires Inv-loop μ-loop
+store-hole-requires c κs = search needs
+
+store-count-requires : tie.Need-store-count-requires Inv-loop μ-loop
+store-count-requires c κs = search needs
+
+add-start : tie.Need-add-start Inv-loop μ-loop
+add-start c =
+    let more = next-there _ _ (c .before .before .before .before .before .before .before .before .loop .inv .2) _ _ _ (omega (arith, c .before .before .before .before .before .before .before .before .loop .inv .1, c .before .before .before .before .before .before .before .loop-test .taken)) (c .before .before .before .before .before .before .before .before .loop .inv .3) (c .before .before .before .before .before .before .count-at2 .ensures) in
+    search (needs, more)
+
+loop-less : tie.Need-loop-less Inv-loop μ-loop
+loop-less c = search needs
+
+loop-again : tie.Need-loop-again Inv-loop μ-loop
+loop-again c =
+    let n = c .before .before .before .before .before .before .count-at2 .ensures in
+    let within = c .before .before .before .before .before .before .before .loop-test .taken in (
+      search needs,
+      c .before .before .before .before .before .before .before .before .loop .inv .1,
+      c .before .before .before .before .before .before .before .before .loop .inv .2,
+      next-ring _ _ _ _ (c .before .before .before .before .before .before .before .before .loop .inv .3) n,
+      next-there _ _ (c .before .before .before .before .before .before .before .before .loop .inv .2) _ _ _ (omega (arith, c .before .before .before .before .before .before .before .before .loop .inv .1, within)) (c .before .before .before .before .before .before .before .before .loop .inv .3) n,
+      ring-loaded _ _ _ _ _ _ _ (c .before .before .before .before .before .before .before .before .loop .inv .5) _ n _ (part-from (c .before .before .before .before .before .before .before .before .before .before .before .before .before .args .ps .now) (2 * c .before .before .before .before .before .before .before .before .loop .start)) _ (c .before .before .before .before .check-ring .ensures) _ _
+          (sym (c .before .before .before .granted .ensures) ∙ not-false _ (c .before .before .if1 .left)) (c .before .store-hole .ensures) (c .store-count .ensures),
+    )
+
+loaded-requires-2 : tie.Need-loaded-requires-2 Inv-loop μ-loop
+loaded-requires-2 c κs = search needs
+
+returns-2 : tie.Need-returns-2 Inv-loop μ-loop
+returns-2 c =
+    c .loaded2 .ensures ∙
+    all-loaded _ _ _ _ _ _ _ (c .before .before .loop .inv .5) (omega (arith, c .before .before .loop .inv .0, c .before .before .loop .inv .1)) (omega (arith, c .before .loop-test .left, c .before .before .loop .inv .1))
+
+pub load-holes-spec : {M : Type 1} → statement M
+load-holes-spec =
+    tie.close
+    (tie.spec
+    Inv-loop
+    μ-loop
+    count-at-requires
+    less-requires
+    loop-holds
+    add-place
+    count-at-requires-2
+    mul-from
+    mul-part
+    sub-part
+    part-part-start
+    part-part-end
+    check-ring-requires
+    granted-requires
+    loaded-requires
+    returns
+    store-hole-requires
+    store-count-requires
+    add-start
+    loop-less
+    loop-again
+    loaded-requires-2
+    returns-2)

@@ -1,0 +1,29 @@
+-- `ringload::load_rings` meets its contract. Assumes nothing.
+use mathlib.Core.Path.{sym, _∙_}
+use Rattle.ring.proofs.Choices.{yes, no}
+use Rattle.ringload.specs.Loads
+use borrow.Author.Needs.{needs}
+use Rattle.ringload.proofs.load_rings.Statement.{statement}
+use Rattle.ringload.proofs.load_rings.Tie as tie
+
+lengths-fit-requires : tie.Need-lengths-fit-requires
+lengths-fit-requires c κs = search needs
+
+load-fitting-requires : tie.Need-load-fitting-requires
+load-fitting-requires c κs = sym (c .before .lengths-fit .ensures) ∙ c .if1 .taken
+
+no-load-requires : tie.Need-no-load-requires
+no-load-requires c κs = search needs
+
+returns : tie.Need-returns
+unfolding Loads.load-fitting
+returns c = yes _ _ _ _ (c .load-fitting .ensures) (sym (c .before .before .lengths-fit .ensures) ∙ c .before .if1 .taken)
+
+returns-2 : tie.Need-returns-2
+unfolding Loads.load-fitting
+returns-2 c = no _ _ _ _ (c .no-load .ensures) (sym (c .before .before .lengths-fit .ensures) ∙ c .before .if1 .left)
+
+pub load-rings-spec : {M : Type 1} → statement M
+load-rings-spec =
+    tie.close
+    (tie.spec lengths-fit-requires load-fitting-requires no-load-requires returns returns-2)

@@ -1,0 +1,85 @@
+// Measures of an outline that is handed in, and its clearance: question 21 first.
+ghost use mathlib.Core.Path.{_≡_};
+ghost use Rattle.queries.specs.Queries;
+use areas::Area;
+use areas::NewArea;
+use error::Refusal;
+use polygon::entry;
+use queries::Measured;
+
+// Beside a refusal: 0.
+pub(crate) fn unmeasured(r: Refusal) -> Measured
+    ensures { λ x. ⌜ x ≡ Queries.unmeasured r ⌝ }
+{
+    Measured {
+        refusal: r,
+        value: 0.0,
+    }
+}
+
+// The enclosed area.
+pub fn area(ps: &[f64], n: usize) -> NewArea
+    ensures { λ r. ⌜ r ≡ Queries.area (now (ps .entry)) n ⌝ }
+{
+    let r = entry::ask_ring(ps, n, Refusal::Granted);
+    if r.granted() {
+        NewArea {
+            refusal: Refusal::Granted,
+            area: Area {
+                value: measures::area(ps, n),
+            },
+        }
+    } else {
+        NewArea {
+            refusal: r,
+            area: Area { value: 0.0 },
+        }
+    }
+}
+
+// The length of the boundary; an infinite one reads 0.
+pub fn perimeter(ps: &[f64], n: usize) -> Measured
+    ensures { λ r. ⌜ r ≡ Queries.perimeter (now (ps .entry)) n ⌝ }
+{
+    let r = entry::ask_ring(ps, n, Refusal::Granted);
+    if r.granted() {
+        Measured {
+            refusal: Refusal::Granted,
+            value: measures::perimeter(ps, n),
+        }
+    } else {
+        unmeasured(r)
+    }
+}
+
+// The largest coordinate, without its sign.
+pub fn extent(ps: &[f64], n: usize) -> Measured
+    ensures { λ r. ⌜ r ≡ Queries.extent (now (ps .entry)) n ⌝ }
+{
+    let r = entry::ask_ring(ps, n, Refusal::Granted);
+    if r.granted() {
+        Measured {
+            refusal: Refusal::Granted,
+            value: measures::extent(ps, n),
+        }
+    } else {
+        unmeasured(r)
+    }
+}
+
+// The clearance of the second outline from the first.
+pub fn clearance<'a>(ps: &'a [f64], n: usize, qs: &'a [f64], m: usize) -> Measured
+    ensures { λ r. ⌜ r ≡ Queries.clearance (now (ps .entry)) n (now (qs .entry)) m ⌝ }
+{
+    let r = entry::ask_ring(ps, n, entry::ask_ring(qs, m, Refusal::Granted));
+    if r.granted() {
+        let meet = meet::rings_meet(qs, m, ps, n);
+        let gap = near::least_gap(ps, n, qs, m);
+        Measured {
+            refusal: Refusal::Granted,
+            value: math::choose(meet, 0.0, math::distance(gap)),
+        }
+    } else {
+        unmeasured(r)
+    }
+}

@@ -1,0 +1,5 @@
+pub mod Writable
+pub mod Answers
+pub mod Puts
+pub mod Steps
+pub mod Ends

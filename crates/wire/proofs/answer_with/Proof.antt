@@ -1,0 +1,82 @@
+-- `wire::answer_with` meets its contract. Assumes nothing.
+use borrow.Author.Needs.{needs}
+use Rattle.wire.proofs.Answers.{rings-in, count-in, counts-part, given-answered, given-written, refused-answered, refused-written}
+use Rattle.wire.proofs.answer_with.Statement.{statement}
+use Rattle.wire.proofs.answer_with.Tie as tie
+
+parse-job-requires : tie.Need-parse-job-requires
+parse-job-requires c κs = search needs
+
+granted-requires : tie.Need-granted-requires
+granted-requires c κs = search needs
+
+slice-reshare-prefix-job : tie.Need-slice-reshare-prefix-job
+slice-reshare-prefix-job c = let m = rings-in _ _ _ _ _ _ (c .before .before .before .before .before .before .parse-job .ensures) _ (c .before .granted .ensures) (c .if1 .taken) (c .before .before .before .before .before .before .before .before .before .before .before .before .before .pre .0) (c .before .before .before .before .before .before .before .before .before .before .before .before .before .pre .1) in search needs
+
+slice-aggregate-job : tie.Need-slice-aggregate-job
+slice-aggregate-job c = counts-part _ _ (rings-in _ _ _ _ _ _ (c .before .before .before .before .before .before .before .parse-job .ensures) _ (c .before .before .granted .ensures) (c .before .if1 .taken) (c .before .before .before .before .before .before .before .before .before .before .before .before .before .before .pre .0) (c .before .before .before .before .before .before .before .before .before .before .before .before .before .before .pre .1))
+
+slice-reshare-prefix-job-2 : tie.Need-slice-reshare-prefix-job-2
+slice-reshare-prefix-job-2 c = let m = count-in _ _ _ _ _ _ (c .before .before .before .before .before .before .before .parse-job .ensures) _ (c .before .before .granted .ensures) (c .before .if1 .taken) (c .before .before .before .before .before .before .before .before .before .before .before .before .before .before .pre .0) (c .before .before .before .before .before .before .before .before .before .before .before .before .before .before .pre .1) in search needs
+
+slice-aggregate-job-2 : tie.Need-slice-aggregate-job-2
+slice-aggregate-job-2 c = counts-part _ _ (count-in _ _ _ _ _ _ (c .before .before .before .before .before .before .before .before .parse-job .ensures) _ (c .before .before .before .granted .ensures) (c .before .before .if1 .taken) (c .before .before .before .before .before .before .before .before .before .before .before .before .before .before .before .pre .0) (c .before .before .before .before .before .before .before .before .before .before .before .before .before .before .before .pre .1))
+
+job-requires : tie.Need-job-requires
+job-requires c κs = search needs
+
+answer-bytes-requires : tie.Need-answer-bytes-requires
+answer-bytes-requires c κs = search needs
+
+same-length : tie.Need-same-length
+same-length c = search needs
+
+same-length-2 : tie.Need-same-length-2
+same-length-2 c = search needs
+
+same-length-3 : tie.Need-same-length-3
+same-length-3 c = search needs
+
+returns : tie.Need-returns
+returns c = (given-answered _ _ _ _ _ _ (c .before .before .before .before .before .before .before .before .before .before .before .before .before .parse-job .ensures) _ (c .before .before .before .before .before .before .before .before .granted .ensures) (c .before .before .before .before .before .before .before .if1 .taken) (c .before .before .before .before .before .before .before .before .before .before .before .before .before .before .before .before .before .before .before .before .pre .0) (c .before .before .before .before .before .before .before .before .before .before .before .before .before .before .before .before .before .before .before .before .pre .1) _ (c .before .before .before .before .job .ensures) _ _ (c .before .before .answer-bytes .ensures .0), given-written _ _ _ _ _ _ (c .before .before .before .before .before .before .before .before .before .before .before .before .before .parse-job .ensures) _ (c .before .before .before .before .before .before .before .before .granted .ensures) (c .before .before .before .before .before .before .before .if1 .taken) (c .before .before .before .before .before .before .before .before .before .before .before .before .before .before .before .before .before .before .before .before .pre .0) (c .before .before .before .before .before .before .before .before .before .before .before .before .before .before .before .before .before .before .before .before .pre .1) _ (c .before .before .before .before .job .ensures) _ _ (c .before .before .answer-bytes .ensures .1))
+
+number-requires : tie.Need-number-requires
+number-requires c κs = search needs
+
+no-line-requires : tie.Need-no-line-requires
+no-line-requires c κs = search needs
+
+same-length-4 : tie.Need-same-length-4
+same-length-4 c = search needs
+
+same-length-5 : tie.Need-same-length-5
+same-length-5 c = search needs
+
+same-length-6 : tie.Need-same-length-6
+same-length-6 c = search needs
+
+returns-2 : tie.Need-returns-2
+returns-2 c = (refused-answered _ _ _ _ _ _ (c .before .before .before .before .before .before .before .before .before .before .before .parse-job .ensures) _ (c .before .before .before .before .before .before .granted .ensures) (c .before .before .before .before .before .if1 .left) _ _ _ (c .before .before .before .before .number .ensures) (c .before .before .no-line .ensures .0), refused-written _ _ _ _ _ _ (c .before .before .before .before .before .before .before .before .before .before .before .parse-job .ensures) _ (c .before .before .before .before .before .before .granted .ensures) (c .before .before .before .before .before .if1 .left) _ _ _ (c .before .before .before .before .number .ensures) (c .before .before .no-line .ensures .1))
+
+pub answer-with-spec : {M : Type 1} → statement M
+answer-with-spec =
+    tie.close
+    (tie.spec
+    parse-job-requires
+    granted-requires
+    slice-reshare-prefix-job
+    slice-aggregate-job
+    slice-reshare-prefix-job-2
+    slice-aggregate-job-2
+    job-requires
+    answer-bytes-requires
+    same-length
+    same-length-2
+    same-length-3
+    returns
+    number-requires
+    no-line-requires
+    same-length-4
+    same-length-5
+    same-length-6
+    returns-2)

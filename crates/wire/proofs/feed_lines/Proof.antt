@@ -1,0 +1,85 @@
+-- `wire::feed_lines` meets its contract. Assumes nothing.
+use borrow.Author.Needs.{needs}
+use Prim.Native.Nat.{_+_, _-_, _≤_}
+use mathlib.Core.Path.{_≡_, refl}
+use lib.ListN.{length}
+use denote.Ref.{now}
+use Rattle.loops.specs.Loop.{rounds}
+use Rattle.streaming.specs.Feeding.{feed-step, feed-start}
+use Rattle.wire.specs.Wire.{feed-of}
+use Rattle.wire.proofs.Steps.{starts, at-in, have-most, goes-on, end-told, end-held, end-out, stop-told, stop-held, stop-out}
+use Rattle.wire.proofs.feed_lines.Statement.{statement}
+use Rattle.wire.proofs.feed_lines.Tie as tie
+
+abbrev Inv-loop : tie.InvT-loop
+Inv-loop block held₀ count lengths₀ coordinates₀ out₀ at₀ have₀ used₀ k₀ held lengths coordinates out at have used k = (k ≤ length block + 1) × (length lengths ≡ length lengths₀) × (length coordinates ≡ length coordinates₀) × (length held ≡ length held₀) × (length out ≡ length out₀) × (999 ≤ length lengths₀) × (962 ≤ length coordinates₀) × (16385 ≤ length held₀) × (count ≤ 16385) × (feed-of at held have out used ≡ rounds (feed-step block) k (feed-start held₀ count out₀))
+
+abbrev μ-loop : tie.MeasureT-loop
+μ-loop block held₀ count lengths₀ coordinates₀ out₀ at₀ have₀ used₀ k₀ held lengths coordinates out at have used k = length block + 1 - k
+
+loop-holds : tie.Need-loop-holds Inv-loop μ-loop
+loop-holds c = (search needs, refl, refl, refl, refl, c .before .before .before .before .before .pre .0, c .before .before .before .before .before .pre .1 .0, c .before .before .before .before .before .pre .1 .1 .0, c .before .before .before .before .before .pre .1 .1 .1, starts _ _ _ _)
+
+add-k : tie.Need-add-k Inv-loop μ-loop
+add-k c = search needs
+
+feed-line-requires : tie.Need-feed-line-requires Inv-loop μ-loop
+feed-line-requires c κs = (search needs, (search needs, (search needs, (have-most (now (c .before .before .before .before .before .before .before .before .before .before .before .args .block)) (now (c .before .before .before .before .before .before .before .before .before .before .before .args .held)) _ (now (c .before .before .before .before .before .before .before .before .before .before .before .args .out)) _ _ _ _ _ _ (c .before .before .before .before .before .loop .inv .9) (c .before .before .before .before .before .loop .inv .8) (c .before .before .before .before .before .loop .inv .7), at-in (now (c .before .before .before .before .before .before .before .before .before .before .before .args .block)) (now (c .before .before .before .before .before .before .before .before .before .before .before .args .held)) _ (now (c .before .before .before .before .before .before .before .before .before .before .before .args .out)) _ _ _ _ _ _ (c .before .before .before .before .before .loop .inv .9) (c .before .before .before .before .before .loop .inv .8) (c .before .before .before .before .before .loop .inv .7)))))
+
+loop-less : tie.Need-loop-less Inv-loop μ-loop
+loop-less c = search needs
+
+loop-again : tie.Need-loop-again Inv-loop μ-loop
+loop-again c = (search needs, search needs, search needs, search needs, search needs, c .before .before .before .before .before .before .before .before .before .before .before .before .before .before .before .before .loop .inv .5, c .before .before .before .before .before .before .before .before .before .before .before .before .before .before .before .before .loop .inv .6, c .before .before .before .before .before .before .before .before .before .before .before .before .before .before .before .before .loop .inv .7, c .before .before .before .before .before .before .before .before .before .before .before .before .before .before .before .before .loop .inv .8, goes-on (now (c .before .before .before .before .before .before .before .before .before .before .before .before .before .before .before .before .before .before .before .before .before .before .args .block)) (now (c .before .before .before .before .before .before .before .before .before .before .before .before .before .before .before .before .before .before .before .before .before .before .args .held)) _ (now (c .before .before .before .before .before .before .before .before .before .before .before .before .before .before .before .before .before .before .before .before .before .before .args .out)) _ _ _ _ _ _ (c .before .before .before .before .before .before .before .before .before .before .before .before .before .before .before .before .loop .inv .9) _ _ _ (c .before .before .before .before .before .before .before .before .before .before .feed-line .ensures .0) (c .before .before .before .before .before .before .before .before .before .before .feed-line .ensures .1 .0) (c .before .before .before .before .before .before .before .before .before .before .feed-line .ensures .1 .1) (c .if1 .left))
+
+same-length : tie.Need-same-length Inv-loop μ-loop
+same-length c = search needs
+
+same-length-2 : tie.Need-same-length-2 Inv-loop μ-loop
+same-length-2 c = search needs
+
+same-length-3 : tie.Need-same-length-3 Inv-loop μ-loop
+same-length-3 c = search needs
+
+same-length-4 : tie.Need-same-length-4 Inv-loop μ-loop
+same-length-4 c = search needs
+
+returns : tie.Need-returns Inv-loop μ-loop
+returns c = (end-told (now (c .before .before .before .before .before .before .before .args .block)) (now (c .before .before .before .before .before .before .before .args .held)) _ (now (c .before .before .before .before .before .before .before .args .out)) _ _ _ _ _ _ (c .before .loop .inv .9) (c .before .loop .inv .0) (c .loop-test .left), (end-held (now (c .before .before .before .before .before .before .before .args .block)) (now (c .before .before .before .before .before .before .before .args .held)) _ (now (c .before .before .before .before .before .before .before .args .out)) _ _ _ _ _ _ (c .before .loop .inv .9) (c .before .loop .inv .0) (c .loop-test .left), end-out (now (c .before .before .before .before .before .before .before .args .block)) (now (c .before .before .before .before .before .before .before .args .held)) _ (now (c .before .before .before .before .before .before .before .args .out)) _ _ _ _ _ _ (c .before .loop .inv .9) (c .before .loop .inv .0) (c .loop-test .left)))
+
+same-length-5 : tie.Need-same-length-5 Inv-loop μ-loop
+same-length-5 c = search needs
+
+same-length-6 : tie.Need-same-length-6 Inv-loop μ-loop
+same-length-6 c = search needs
+
+same-length-7 : tie.Need-same-length-7 Inv-loop μ-loop
+same-length-7 c = search needs
+
+same-length-8 : tie.Need-same-length-8 Inv-loop μ-loop
+same-length-8 c = search needs
+
+returns-2 : tie.Need-returns-2 Inv-loop μ-loop
+returns-2 c = (stop-told (now (c .before .before .before .before .before .before .before .before .before .before .before .before .before .before .before .before .before .before .before .before .before .before .args .block)) (now (c .before .before .before .before .before .before .before .before .before .before .before .before .before .before .before .before .before .before .before .before .before .before .args .held)) _ (now (c .before .before .before .before .before .before .before .before .before .before .before .before .before .before .before .before .before .before .before .before .before .before .args .out)) _ _ _ _ _ _ (c .before .before .before .before .before .before .before .before .before .before .before .before .before .before .before .before .loop .inv .9) _ _ _ (c .before .before .before .before .before .before .before .before .before .before .feed-line .ensures .0) (c .before .before .before .before .before .before .before .before .before .before .feed-line .ensures .1 .0) (c .before .before .before .before .before .before .before .before .before .before .feed-line .ensures .1 .1) (c .if1 .taken) (c .before .before .before .before .before .before .before .before .before .before .before .before .before .before .before .loop-test .taken), (stop-held (now (c .before .before .before .before .before .before .before .before .before .before .before .before .before .before .before .before .before .before .before .before .before .before .args .block)) (now (c .before .before .before .before .before .before .before .before .before .before .before .before .before .before .before .before .before .before .before .before .before .before .args .held)) _ (now (c .before .before .before .before .before .before .before .before .before .before .before .before .before .before .before .before .before .before .before .before .before .before .args .out)) _ _ _ _ _ _ (c .before .before .before .before .before .before .before .before .before .before .before .before .before .before .before .before .loop .inv .9) _ _ _ (c .before .before .before .before .before .before .before .before .before .before .feed-line .ensures .0) (c .before .before .before .before .before .before .before .before .before .before .feed-line .ensures .1 .0) (c .before .before .before .before .before .before .before .before .before .before .feed-line .ensures .1 .1) (c .if1 .taken) (c .before .before .before .before .before .before .before .before .before .before .before .before .before .before .before .loop-test .taken), stop-out (now (c .before .before .before .before .before .before .before .before .before .before .before .before .before .before .before .before .before .before .before .before .before .before .args .block)) (now (c .before .before .before .before .before .before .before .before .before .before .before .before .before .before .before .before .before .before .before .before .before .before .args .held)) _ (now (c .before .before .before .before .before .before .before .before .before .before .before .before .before .before .before .before .before .before .before .before .before .before .args .out)) _ _ _ _ _ _ (c .before .before .before .before .before .before .before .before .before .before .before .before .before .before .before .before .loop .inv .9) _ _ _ (c .before .before .before .before .before .before .before .before .before .before .feed-line .ensures .0) (c .before .before .before .before .before .before .before .before .before .before .feed-line .ensures .1 .0) (c .before .before .before .before .before .before .before .before .before .before .feed-line .ensures .1 .1) (c .if1 .taken) (c .before .before .before .before .before .before .before .before .before .before .before .before .before .before .before .loop-test .taken)))
+
+pub feed-lines-spec : {M : Type 1} → statement M
+feed-lines-spec =
+    tie.close
+    (tie.spec
+    Inv-loop
+    μ-loop
+    loop-holds
+    add-k
+    feed-line-requires
+    loop-less
+    loop-again
+    same-length
+    same-length-2
+    same-length-3
+    same-length-4
+    returns
+    same-length-5
+    same-length-6
+    same-length-7
+    same-length-8
+    returns-2)

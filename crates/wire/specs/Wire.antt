@@ -1,0 +1,89 @@
+-- One line of bytes to one line of bytes, and the stream of lines, with the memory that is lent. Assumes nothing.
+use Prim.Native.Nat.{ℕ, _+_, _-_, _≤_}
+use mathlib.Core.Bool.{Bool, true, false, cond, _&&_}
+use mathlib.Core.Path.{_≡_}
+use mathlib.Core.List.{List, []}
+use lib.Dec.{leb, eqb}
+use lib.ListN.{length, take, drop}
+use lib.Ieee.{Float}
+use Rattle.digits.specs.Stores.{put}
+use Rattle.jobs.specs.Jobs.{job}
+use Rattle.jobs.specs.Stream.{answered, written}
+use Rattle.answering.specs.Writing.{writable}
+use Rattle.streaming.specs.Feeding.{most-held, Feed, fed, machine}
+use Rattle.wire.specs.declared.Put.{Put}
+use Rattle.wire.specs.declared.Fed.{Fed}
+use Rattle.wire.specs.declared.Step.{Step}
+use Rattle.streaming.specs.declared.Next.{Next}
+
+-- ---- an answer line with its LF, to lent bytes from `used` on
+
+unfoldable pub answer-fits : List ℕ → List ℕ → ℕ → Bool
+answer-fits line out used = leb (used + length (answered line)) (length out)
+
+unfoldable pub answer-put : List ℕ → List ℕ → ℕ → Put
+answer-put line out used = record { fits = answer-fits line out used; used = cond (answer-fits line out used) (used + length (answered line)) used }
+
+unfoldable pub put-written : List ℕ → List ℕ → ℕ → List ℕ
+put-written line out used = cond (answer-fits line out used) (put out used (answered line)) out
+
+-- ---- the stream
+
+-- the bytes of the line that was found
+unfoldable pub line-of : List ℕ → ℕ → Next → List ℕ → List ℕ
+line-of block at next held = cond (next .direct) (take (next .stop - at) (drop at block)) (take (next .count) held)
+
+-- the stream before a line of a block, and what is handed back after it
+unfoldable pub feed-of : ℕ → List ℕ → ℕ → List ℕ → ℕ → Feed
+feed-of at held count out used = record { at = at; held = held; count = count; out = out; used = used; more = true }
+
+unfoldable pub step-told : Feed → Step
+step-told s = record { at = s .at; count = s .count; used = s .used; more = s .more }
+
+unfoldable pub held-of : Feed → List ℕ
+held-of s = s .held
+
+unfoldable pub out-of : Feed → List ℕ
+out-of s = s .out
+
+-- the memory lent for a cut line has its room
+unfoldable pub holds : List ℕ → ℕ → Bool
+holds held count = leb most-held (length held) && leb count most-held
+
+-- where it has not, nothing is taken
+unfoldable pub stuck : List ℕ → ℕ → List ℕ → Feed
+stuck held count out = record { at = 0; held = held; count = count; out = out; used = 0; more = false }
+
+unfoldable pub stream-fed : List ℕ → List ℕ → ℕ → List ℕ → Feed
+stream-fed block held count out = cond (holds held count) (fed block held count out) (stuck held count out)
+
+unfoldable pub told : Feed → Fed
+told s = record { taken = s .at; count = s .count; used = s .used }
+
+-- ---- the end of the input ends a line that has a byte
+
+unfoldable pub last-line : List ℕ → ℕ → Bool
+last-line held count = holds held count && leb 1 count
+
+unfoldable pub finished : List ℕ → ℕ → List ℕ → Put
+finished held count out = cond (last-line held count) (answer-put (take count held) out 0) (record { fits = holds held count; used = 0 })
+
+unfoldable pub finish-written : List ℕ → ℕ → List ℕ → List ℕ
+finish-written held count out = cond (last-line held count) (put-written (take count held) out 0) out
+
+-- ---- what is to hold
+
+-- what a job hands back can always be written
+abbrev pub JobWritable : Type 0
+JobWritable = (outward : Bool) (d : Float) (lengths : List ℕ) (ps : List Float) → writable (job outward d lengths ps) ≡ true
+
+-- the end of the input writes what the machine then writes
+abbrev pub Finishes : Type 0
+Finishes =
+    (held : List ℕ) (count : ℕ) (out : List ℕ) → holds held count ≡ true → ((finished held count out) .fits) ≡ true
+    → take ((finished held count out) .used) (finish-written held count out) ≡ written (machine held count [])
+
+-- opens every definition above, for a proof that computes with all of them
+unfoldable pub open-wire : Unit {0}
+unfolding answer-fits answer-put put-written line-of feed-of step-told held-of out-of holds stuck stream-fed told last-line finished finish-written
+open-wire = tt

@@ -1,0 +1,272 @@
+// One line of bytes to one line of bytes, and the stream of lines.
+ghost use mathlib.Core.Path.{_≡_};
+ghost use mathlib.Core.Bool.{true};
+ghost use Prim.Native.Nat.{_≤_};
+ghost use lib.ListN.{length};
+ghost use Rattle.jobs.specs.Lines;
+ghost use Rattle.answering.specs.Writing;
+ghost use Rattle.streaming.specs.Feeding;
+ghost use Rattle.wire.specs.Wire;
+use answering::Answered;
+use streaming::Next;
+
+// Whether an answer fitted the lent bytes, and how many are used then.
+pub struct Put {
+    pub fits: bool,
+    pub used: usize,
+}
+
+// How many bytes of a block are taken, how many of a cut line are held, and how many bytes of the output are used.
+pub struct Fed {
+    pub taken: usize,
+    pub count: usize,
+    pub used: usize,
+}
+
+// One line of a block; `more` where the next one may follow.
+pub struct Step {
+    pub at: usize,
+    pub count: usize,
+    pub used: usize,
+    pub more: bool,
+}
+
+// A line's answer line, both without LF, with memory for its numbers.
+pub(crate) fn answer_with<'a>(
+    line: &'a [u8],
+    lengths: &'a mut [usize],
+    coordinates: &'a mut [f64],
+    out: &'a mut [u8],
+) -> Answered
+    requires { ⌜ 999 ≤ length (now lengths) ⌝ }
+    requires { ⌜ 962 ≤ length (now coordinates) ⌝ }
+    ensures answered { λ r. ⌜ r ≡ Writing.bytes-answered (Lines.answer-line (now (line .entry))) (now (out .entry)) ⌝ }
+    ensures written { λ _. ⌜ now (out .exit) ≡ Lines.bytes-written (Lines.answer-line (now (line .entry))) (now (out .entry)) ⌝ }
+{
+    let p = reading::parse_job(line, lengths, coordinates);
+    let refusal = p.refusal;
+    if refusal.granted() {
+        let rings = p.rings;
+        let count = p.count;
+        let a = jobwork::job(
+            p.outward,
+            p.distance,
+            &lengths[..rings],
+            &coordinates[..count],
+        );
+        return answering::answer_bytes(a, out);
+    }
+    answering::no_line(refusal.number(), out)
+}
+
+// A line's answer line, both without LF, to lent bytes: question 20 last.
+pub fn answer_line(line: &[u8], out: &mut [u8]) -> Answered
+    ensures answered { λ r. ⌜ r ≡ Writing.bytes-answered (Lines.answer-line (now (line .entry))) (now (out .entry)) ⌝ }
+    ensures written { λ _. ⌜ now (out .exit) ≡ Lines.bytes-written (Lines.answer-line (now (line .entry))) (now (out .entry)) ⌝ }
+{
+    let mut lengths = [0usize; 999];
+    let mut coordinates = [0.0; 962];
+    answer_with(line, &mut lengths, &mut coordinates, out)
+}
+
+// The answer line and its LF, to lent bytes from `used` on; where they do not fit, nothing.
+pub(crate) fn put_answer<'a>(
+    line: &'a [u8],
+    lengths: &'a mut [usize],
+    coordinates: &'a mut [f64],
+    out: &'a mut [u8],
+    used: usize,
+) -> Put
+    requires { ⌜ 999 ≤ length (now lengths) ⌝ }
+    requires { ⌜ 962 ≤ length (now coordinates) ⌝ }
+    ensures told { λ r. ⌜ r ≡ Wire.answer-put (now (line .entry)) (now (out .entry)) used ⌝ }
+    ensures written { λ _. ⌜ now (out .exit) ≡ Wire.put-written (now (line .entry)) (now (out .entry)) used ⌝ }
+{
+    let size = out.len();
+    if used < size {
+        let a = answer_with(line, lengths, coordinates, &mut out[used..size - 1]);
+        let refusal = a.refusal;
+        if refusal.granted() {
+            let end = used + a.count;
+            out[end] = 10;
+            return Put {
+                fits: true,
+                used: end + 1,
+            };
+        }
+        return Put {
+            fits: false,
+            used: used,
+        };
+    }
+    Put {
+        fits: false,
+        used: used,
+    }
+}
+
+// The answer of the line that was found: in the block, or held.
+pub(crate) fn put_next<'a>(
+    block: &'a [u8],
+    at: usize,
+    next: Next,
+    held: &'a [u8],
+    lengths: &'a mut [usize],
+    coordinates: &'a mut [f64],
+    out: &'a mut [u8],
+    used: usize,
+) -> Put
+    requires { ⌜ 999 ≤ length (now lengths) ⌝ }
+    requires { ⌜ 962 ≤ length (now coordinates) ⌝ }
+    requires { ⌜ at ≤ next .stop ⌝ }
+    requires { ⌜ next .stop ≤ length (now block) ⌝ }
+    requires { ⌜ next .count ≤ length (now held) ⌝ }
+    ensures told { λ r. ⌜ r ≡ Wire.answer-put (Wire.line-of (now (block .entry)) at next (now (held .entry))) (now (out .entry)) used ⌝ }
+    ensures written { λ _. ⌜ now (out .exit) ≡ Wire.put-written (Wire.line-of (now (block .entry)) at next (now (held .entry))) (now (out .entry)) used ⌝ }
+{
+    let stop = next.stop;
+    let count = next.count;
+    if next.direct {
+        return put_answer(&block[at..stop], lengths, coordinates, out, used);
+    }
+    put_answer(&held[..count], lengths, coordinates, out, used)
+}
+
+// One line of a block: it is answered, or what there is of it is held.
+pub(crate) fn feed_line<'a>(
+    block: &'a [u8],
+    at: usize,
+    held: &'a mut [u8],
+    count: usize,
+    lengths: &'a mut [usize],
+    coordinates: &'a mut [f64],
+    out: &'a mut [u8],
+    used: usize,
+) -> Step
+    requires { ⌜ 999 ≤ length (now lengths) ⌝ }
+    requires { ⌜ 962 ≤ length (now coordinates) ⌝ }
+    requires { ⌜ 16385 ≤ length (now held) ⌝ }
+    requires { ⌜ count ≤ 16385 ⌝ }
+    requires { ⌜ at ≤ length (now block) ⌝ }
+    ensures told { λ r. ⌜ r ≡ Wire.step-told (Feeding.feed-line (now (block .entry)) (Wire.feed-of at (now (held .entry)) count (now (out .entry)) used)) ⌝ }
+    ensures held { λ _. ⌜ now (held .exit) ≡ Wire.held-of (Feeding.feed-line (now (block .entry)) (Wire.feed-of at (now (held .entry)) count (now (out .entry)) used)) ⌝ }
+    ensures written { λ _. ⌜ now (out .exit) ≡ Wire.out-of (Feeding.feed-line (now (block .entry)) (Wire.feed-of at (now (held .entry)) count (now (out .entry)) used)) ⌝ }
+{
+    let next = streaming::next_line(block, at, held, count);
+    let stop = next.stop;
+    if next.ended {
+        let p = put_next(block, at, next, held, lengths, coordinates, out, used);
+        if p.fits {
+            return Step {
+                at: stop + 1,
+                count: 0,
+                used: p.used,
+                more: true,
+            };
+        }
+        return Step {
+            at: ring::choose(next.direct, at, stop),
+            count: next.count,
+            used: used,
+            more: false,
+        };
+    }
+    Step {
+        at: stop,
+        count: next.count,
+        used: used,
+        more: false,
+    }
+}
+
+// The lines of a block, until it is taken or an answer does not fit the output. `count` bytes of a cut line are held. Where the memory lent for them has not
+// the room, nothing is taken.
+pub fn feed<'a>(block: &'a [u8], held: &'a mut [u8], count: usize, out: &'a mut [u8]) -> Fed
+    ensures told { λ r. ⌜ r ≡ Wire.told (Wire.stream-fed (now (block .entry)) (now (held .entry)) count (now (out .entry))) ⌝ }
+    ensures held { λ _. ⌜ now (held .exit) ≡ Wire.held-of (Wire.stream-fed (now (block .entry)) (now (held .entry)) count (now (out .entry))) ⌝ }
+    ensures written { λ _. ⌜ now (out .exit) ≡ Wire.out-of (Wire.stream-fed (now (block .entry)) (now (held .entry)) count (now (out .entry))) ⌝ }
+{
+    if held.len() < 16385 {
+        return Fed {
+            taken: 0,
+            count: count,
+            used: 0,
+        };
+    }
+    if 16385 < count {
+        return Fed {
+            taken: 0,
+            count: count,
+            used: 0,
+        };
+    }
+    let mut lengths = [0usize; 999];
+    let mut coordinates = [0.0; 962];
+    feed_lines(block, held, count, &mut lengths, &mut coordinates, out)
+}
+
+// The same with memory for a line's numbers.
+pub(crate) fn feed_lines<'a>(
+    block: &'a [u8],
+    held: &'a mut [u8],
+    count: usize,
+    lengths: &'a mut [usize],
+    coordinates: &'a mut [f64],
+    out: &'a mut [u8],
+) -> Fed
+    requires { ⌜ 999 ≤ length (now lengths) ⌝ }
+    requires { ⌜ 962 ≤ length (now coordinates) ⌝ }
+    requires { ⌜ 16385 ≤ length (now held) ⌝ }
+    requires { ⌜ count ≤ 16385 ⌝ }
+    ensures told { λ r. ⌜ r ≡ Wire.told (Feeding.fed (now (block .entry)) (now (held .entry)) count (now (out .entry))) ⌝ }
+    ensures held { λ _. ⌜ now (held .exit) ≡ Wire.held-of (Feeding.fed (now (block .entry)) (now (held .entry)) count (now (out .entry))) ⌝ }
+    ensures written { λ _. ⌜ now (out .exit) ≡ Wire.out-of (Feeding.fed (now (block .entry)) (now (held .entry)) count (now (out .entry))) ⌝ }
+{
+    let mut at = 0usize;
+    let mut have = count;
+    let mut used = 0usize;
+    let mut k = 0usize;
+    while k <= block.len() {
+        k += 1;
+        let s = feed_line(block, at, held, have, lengths, coordinates, out, used);
+        at = s.at;
+        have = s.count;
+        used = s.used;
+        if !s.more {
+            break;
+        }
+    }
+    Fed {
+        taken: at,
+        count: have,
+        used: used,
+    }
+}
+
+// The end of the input: a line that has a byte is answered.
+pub fn finish<'a>(held: &'a [u8], count: usize, out: &'a mut [u8]) -> Put
+    ensures told { λ r. ⌜ r ≡ Wire.finished (now (held .entry)) count (now (out .entry)) ⌝ }
+    ensures written { λ _. ⌜ now (out .exit) ≡ Wire.finish-written (now (held .entry)) count (now (out .entry)) ⌝ }
+{
+    if held.len() < 16385 {
+        return Put {
+            fits: false,
+            used: 0,
+        };
+    }
+    if 16385 < count {
+        return Put {
+            fits: false,
+            used: 0,
+        };
+    }
+    if count == 0 {
+        return Put {
+            fits: true,
+            used: 0,
+        };
+    }
+    let mut lengths = [0usize; 999];
+    let mut coordinates = [0.0; 962];
+    put_answer(&held[..count], &mut lengths, &mut coordinates, out, 0)
+}

@@ -1,0 +1,194 @@
+/* Lizardwire for C and C++: cages of outlines and regions.
+ *
+ * Link with target/staticlib/liblizardwire_c.a or target/shared/liblizardwire.so
+ * (`tools/library` builds both). The library is for x86-64 Linux. It allocates
+ * nothing, keeps nothing between calls, calls nothing of yours, and may be
+ * called from any number of threads at once. A job line takes 246 KB of stack,
+ * a region's inset 216, an outline's offset 182, the check of a region 59, and
+ * anything else less than 1 KB.
+ *
+ * Numbers come as one flat list of doubles, east then north of each vertex.
+ * Every bit pattern is allowed in them, NaN too. What a caller owes is what C
+ * cannot check: a pointer leads to as many numbers as the count beside it says,
+ * is not NULL (where the count is 0, any address will do), and what is lent as
+ * output is not part of the input.
+ *
+ * Every function answers in a struct. `refusal` is 0 where the call is granted.
+ * Otherwise it is the number of the first question that was answered with no,
+ * the other fields carry what belongs to it, and the lent output is as it was.
+ * A granted call changes only the numbers that it writes.
+ *
+ *  refusal                                             fields that carry
+ *   1  the count of numbers is odd
+ *   2  a number is not finite                          first: its index
+ *   3  no ring, or lengths that do not add up
+ *      to the points
+ *   4  fewer than three vertices                       ring; first: vertices found
+ *   5  a coordinate beyond +-1e9                       ring; value: the coordinate
+ *   6  more vertices than there is room for            ring; first: needed, second: room
+ *   7  a vertex equal to its neighbour                 ring
+ *   8  an area of nothing beside the outline's span    ring
+ *   9  two edges cross or touch                        ring; first, second: the edges
+ *  10  more than 8 holes                               first: holes given
+ *  11  a hole that reaches the outer ring or lies
+ *      outside it                                      first: the hole
+ *  12  two holes that touch or overlap                 first, second: the holes
+ *  13  a distance that is not finite, or above 1e12
+ *  14  a distance below 0                              value: the distance
+ *  15  a front of more than 128 edges                  first: needed
+ *  16  nothing is left at that distance                value: the distance
+ *  17  what is left is not one piece, or not clear
+ *      of the source                                   value: the distance
+ *  18  387 events did not bring the front to the
+ *      distance                                        first: 387, value: what remained
+ *  19  more than 8 holes are left                      first: 9
+ *  20  the lent output is too short                    first: numbers (or bytes) needed
+ *  21  a shape handed in is none: 3 to 128 vertices,
+ *      every coordinate within +-1e9
+ *  22  an ill-formed job line
+ *
+ * A field that a refusal does not carry reads 0. Rings, edges, vertices, holes
+ * and indices count from 0: ring 0 is the outer one, ring k is hole k - 1, and
+ * edge k runs from vertex k to the next. 4, 5 and 6 can also come from an
+ * offset's result; `ring` is then its place among the finished rings.
+ */
+#ifndef LIZARDWIRE_H
+#define LIZARDWIRE_H
+
+#include <stddef.h>
+#include <stdint.h>
+
+#ifdef __cplusplus
+extern "C" {
+#endif
+
+/* The most that a shape holds. */
+#define LW_VERTICES 128      /* an outline, or the outer ring of a region */
+#define LW_HOLES 8           /* holes of a region */
+#define LW_HOLE_VERTICES 32  /* a hole */
+/* Lent output of this many numbers is never too short. */
+#define LW_OUTLINE_NUMBERS 256  /* lw_outline, lw_inset, lw_outset */
+#define LW_REGION_NUMBERS 768   /* lw_region, lw_region_inset */
+/* The longest job line and the longest answer line, in bytes, LF not counted. */
+#define LW_LINE_BYTES 16384
+
+/* What lw_contains answers in `place`. */
+#define LW_INSIDE 0
+#define LW_ON_BOUNDARY 1
+#define LW_OUTSIDE 2
+
+typedef struct LwOutline {
+    size_t refusal;
+    size_t ring, first, second;
+    double value;
+    size_t count;  /* vertices; 0 where refused */
+} LwOutline;
+
+typedef struct LwPlace {
+    size_t refusal;
+    size_t first;
+    size_t place;  /* LW_INSIDE, LW_ON_BOUNDARY, LW_OUTSIDE; LW_OUTSIDE where refused */
+} LwPlace;
+
+typedef struct LwNearest {
+    size_t refusal;
+    size_t first;
+    double distance;     /* 0 where refused, as are the two below */
+    double east, north;  /* the nearest point */
+} LwNearest;
+
+typedef struct LwArea {
+    size_t refusal;
+    double area;  /* 0 where refused */
+} LwArea;
+
+typedef struct LwOffset {
+    size_t refusal;
+    size_t ring, first, second;
+    double value;
+    size_t count;  /* vertices; 0 where refused */
+    /* Completed events, refused or not: edges that shrank to nothing, splits of
+     * a ring into two, splits that made two rings one. */
+    size_t collapses, divides, joins;
+} LwOffset;
+
+/* The double nearest to the root of x*x + y*y, ties to even. hypot(0, 0) is 0;
+ * a root past the largest double is infinity; an infinite operand gives
+ * infinity, even beside a NaN; otherwise a NaN gives NaN. Never refused. */
+double lw_hypot(double x, double y);
+
+/* Are these numbers an outline, and of how many vertices?
+ * Refusals: 1, 2, 4 to 9, ring 0. One closing repeat of the first vertex is dropped. */
+LwOutline lw_check(const double *numbers, size_t count);
+
+/* The outline of these numbers, written to `out`: the numbers as they are, or,
+ * where they run clockwise, reversed with the first vertex kept.
+ * Refusals: those of lw_check, then 20. */
+LwOutline lw_outline(const double *numbers, size_t count, double *out, size_t out_count);
+
+/* The functions below take an outline as lw_outline writes it, and work on
+ * what they are given as it is. An odd count is 21. */
+
+/* Where does the point lie? Refusals: 21, then 2 of the point (0 east, 1 north). */
+LwPlace lw_contains(const double *outline, size_t count, double east, double north);
+
+/* The nearest point of the boundary, and how far it is. Refusals: as lw_contains. */
+LwNearest lw_nearest(const double *outline, size_t count, double east, double north);
+
+/* The area enclosed. Refusals: 21. */
+LwArea lw_area(const double *outline, size_t count);
+
+/* The ring inside the outline at that distance all the way round, written to
+ * `out`. Refusals: 21, 13, 14, then 4, 5, 6 and 15 to 18 as the offset meets
+ * them, then 20. At distance 0 it is the outline itself. */
+LwOffset lw_inset(const double *outline, size_t count, double distance, double *out, size_t out_count);
+
+/* The ring outside it, likewise. */
+LwOffset lw_outset(const double *outline, size_t count, double distance, double *out, size_t out_count);
+
+/* ---- regions and job lines */
+
+typedef struct LwRegion {
+    size_t refusal;
+    size_t ring, first, second;
+    double value;
+    size_t rings;                  /* the outer ring and the holes; 0 where refused */
+    size_t counts[1 + LW_HOLES];   /* vertices of each; 0 beyond the last */
+} LwRegion;
+
+typedef struct LwRegionOffset {
+    size_t refusal;
+    size_t ring, first, second;
+    double value;
+    size_t rings;
+    size_t counts[1 + LW_HOLES];
+    size_t collapses, divides, joins;
+} LwRegionOffset;
+
+typedef struct LwLine {
+    size_t refusal;  /* 0 or 20 */
+    size_t count;    /* bytes of the answer line: those written, or with 20 those needed */
+} LwLine;
+
+/* The region of these numbers: `lengths` has the vertex count of each ring,
+ * the outer one first. Its rings are written to `out` one after the other, each
+ * stored as lw_outline does (holes too run counter-clockwise).
+ * Refusals: 1 to 12, then 20. */
+LwRegion lw_region(const double *numbers, size_t count, const size_t *lengths, size_t rings,
+                   double *out, size_t out_count);
+
+/* The region is checked as lw_region does (1 to 12), then its outer ring moves
+ * in and its holes grow. Refusals: 1 to 12, 13, 14, then 4, 5, 6 and 15 to 19
+ * as the offset meets them, then 20. */
+LwRegionOffset lw_region_inset(const double *numbers, size_t count, const size_t *lengths, size_t rings,
+                               double distance, double *out, size_t out_count);
+
+/* The answer to one job line, both without LF. A refused job is an answer, too:
+ * `no` and the number. Refusals: 20, `count` then being the bytes needed. */
+LwLine lw_job_line(const uint8_t *line, size_t length, uint8_t *out, size_t out_length);
+
+#ifdef __cplusplus
+}
+#endif
+
+#endif

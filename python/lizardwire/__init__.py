@@ -1,0 +1,30 @@
+"""Cages of outlines and regions.
+
+You draw the outline of a part and give a distance. You get the ring that runs inside the
+outline at that distance all the way round, corners mitred, or outside it for an outset.
+Holes stay holes. Where there is no such ring, :class:`Refused` says why, in words and by
+number.
+
+    >>> import lizardwire
+    >>> square = [(0, 0), (4, 0), (4, 4), (0, 4)]
+    >>> lizardwire.inset(square, 1).outer
+    [(1.0, 1.0), (3.0, 1.0), (3.0, 3.0), (1.0, 3.0)]
+    >>> lizardwire.inset(square, 2)
+    Traceback (most recent call last):
+        ...
+    lizardwire.refusals.Refused: nothing is left: the margin 2 is too wide (refusal 16)
+
+The work is done by the shared library, whose functions are proved. This package is
+ordinary Python over it, from 3.9 on, and needs nothing else. ``python -m lizardwire
+--help`` says what it does from the command line.
+"""
+from ._library import LibraryMissing, NotInLibrary
+from .jobs import Answer, Job, answer_line, read_jobs, write_jobs
+from .refusals import Refused
+from .shapes import Cage, Events, Nearest, Outline, Place, Region, hypot, inset, outset
+
+__all__ = [
+    "Answer", "Cage", "Events", "Job", "LibraryMissing", "Nearest", "NotInLibrary", "Outline", "Place", "Refused",
+    "Region", "answer_line", "hypot", "inset", "outset", "read_jobs", "write_jobs",
+]
+__version__ = "0.1.0"

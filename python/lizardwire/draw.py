@@ -1,0 +1,398 @@
+"""Pictures: each outline with its cage, as one SVG, side by side or each in its place.
+
+Nothing is worked out here: what is drawn as a cage is what the answer says. A picture
+is as wide as what it is shown in, up to its own greatest width. Its words come in two
+sizes, one for a phone and one for anything wider; which is shown is left to the
+screen, and room is kept for the larger. Light and dark follow the screen, too.
+"""
+import math
+from typing import Callable, Iterable, List, NamedTuple, Optional, Sequence, Tuple
+from xml.sax.saxutils import escape, quoteattr
+
+from .jobs import Answer
+from .refusals import short
+from .shapes import Point, Ring
+
+CELL, GAP, MARGIN = 320, 20, 20
+ONE_CELL = 420
+PAD = 9
+PHONE_SCREEN, PHONE_TEXT = 360, 12.0
+WIDE_SCREEN, WIDE_TEXT = 700, 15.0
+
+# Widths of the characters from space to tilde, in hundredths of the text's size: those of a wide typeface.
+WIDTHS = (32, 40, 46, 84, 64, 95, 78, 27, 39, 39, 50, 84, 32, 36, 32, 34, 64, 64, 64, 64, 64, 64, 64, 64, 64, 64, 34, 34, 84,
+          84, 84, 53, 100, 68, 69, 70, 77, 63, 58, 77, 75, 29, 29, 66, 56, 86, 75, 79, 60, 79, 69, 63, 61, 73, 68, 99, 69, 61,
+          69, 39, 34, 39, 84, 50, 50, 61, 63, 55, 63, 62, 35, 63, 63, 28, 28, 58, 28, 97, 63, 61, 63, 63, 41, 52, 39, 63, 59,
+          82, 59, 59, 52, 64, 34, 64, 84)
+BOLD = 1.13
+
+STYLE = """
+  svg {{ display: block; margin: 0 auto; max-width: {most}px; }}
+  text {{ font-family: system-ui, -apple-system, "Segoe UI", Roboto, "DejaVu Sans", sans-serif; fill: #1b2733; }}
+  .wide text {{ font-size: {wide:.2f}px; }}
+  .phone text {{ font-size: {phone:.2f}px; }}
+  .phone {{ display: none; }}
+  .name {{ font-weight: 600; }}
+  .soft {{ fill: #52606f; }}
+  .no {{ fill: #9b1239; }}
+  .page {{ fill: #ffffff; }}
+  .source {{ fill: #d9e8f4; stroke: #1668a6; stroke-width: 1.8; stroke-linejoin: round; fill-rule: evenodd; }}
+  .refused {{ fill: #ececec; stroke: #66717e; stroke-dasharray: 6 4; }}
+  .cage {{ fill: none; stroke: #c2410c; stroke-width: 2.6; stroke-linejoin: round; }}
+  .vertex {{ fill: #c2410c; }}
+  .mark {{ stroke: #111827; stroke-width: 4.5; stroke-linecap: round; stroke-linejoin: round; fill: none; }}
+  .spot {{ stroke: #111827; stroke-width: 2.2; fill: none; }}
+  .edge {{ font-weight: 700; text-anchor: middle; paint-order: stroke; stroke: #ffffff; stroke-width: 5px; stroke-linejoin: round; }}
+  @media (max-width: 480px) {{
+    .wide {{ display: none; }}
+    .phone {{ display: inline; }}
+  }}
+  @media (prefers-color-scheme: dark) {{
+    text {{ fill: #e8eef4; }}
+    .soft {{ fill: #a9b8c7; }}
+    .no {{ fill: #ff9db3; }}
+    .page {{ fill: #11161d; }}
+    .source {{ fill: #1d3144; stroke: #6cb3ea; }}
+    .refused {{ fill: #262a30; stroke: #9aa5b1; }}
+    .cage {{ stroke: #ff9d5c; }}
+    .vertex {{ fill: #ff9d5c; }}
+    .mark, .spot {{ stroke: #ffffff; }}
+    .edge {{ stroke: #11161d; }}
+  }}
+"""
+
+
+class Item(NamedTuple):
+    """One outline to draw: ``up`` where the second coordinate grows upwards."""
+
+    name: str
+    side: str
+    distance: float
+    rings: List[Ring]
+    answer: Answer
+    up: bool = True
+
+    def asked(self) -> str:
+        """What was asked for."""
+        return f"{self.side} {short(self.distance)}" if self.side else ""
+
+    def words(self) -> str:
+        """The answer in words."""
+        refused = self.answer.refused
+        return f"no, {refused.number}: {refused.words}" if refused else self.answer.words()
+
+
+# ---- words
+
+def clean(text: str) -> str:
+    """The text without what XML cannot hold."""
+    return "".join(c if c >= " " and not 0xD800 <= ord(c) <= 0xDFFF and c not in "\ufffe\uffff" else " " for c in text)
+
+
+def width(text: str, size: float, bold: bool = False) -> float:
+    """How wide a text is at most."""
+    hundredths = sum(WIDTHS[ord(c) - 32] if " " <= c <= "~" else 65 if ord(c) < 0x1100 else 100 for c in text)
+    return hundredths / 100 * size * (BOLD if bold else 1)
+
+
+def cut(text: str, size: float, room: float, bold: bool = False) -> str:
+    """The text, shortened where it does not fit."""
+    if width(text, size, bold) <= room:
+        return text
+    while text and width(text + "…", size, bold) > room:
+        text = text[:-1]
+    return text.rstrip() + "…"
+
+
+def wrap(text: str, size: float, room: float) -> List[str]:
+    """The text in lines that fit."""
+    lines: List[str] = []
+    for word in text.split():
+        if lines and width(lines[-1] + " " + word, size) <= room:
+            lines[-1] += " " + word
+        else:
+            lines.append(cut(word, size, room))
+    # A last word of a letter or two takes its neighbour with it.
+    if len(lines) > 1 and len(lines[-1]) < 3 and " " in lines[-2]:
+        lines[-2], _, last = lines[-2].rpartition(" ")
+        lines[-1] = last + " " + lines[-1]
+    return lines
+
+
+class Line(NamedTuple):
+    """A line of words: parts with their class, and how far each is from the left."""
+
+    parts: List[Tuple[str, str, float]]
+
+
+def label(item: Item, size: float, room: float) -> List[Line]:
+    """The words below a drawing, as lines."""
+    name, asked = cut(clean(item.name), size, room, True), item.asked()
+    after = width(name, size, True) + 0.6 * size
+    lines = [Line([(name, "name", 0.0)])]
+    if asked and after + width(asked, size) <= room:
+        lines[0].parts.append((asked, "soft", after))
+    elif asked:
+        lines.append(Line([(cut(asked, size, room), "soft", 0.0)]))
+    kind = "no" if item.answer.refused else ""
+    lines += [Line([(text, kind, 0.0)]) for text in wrap(clean(item.words()), size, room)]
+    return lines + [Line([(text, "soft", 0.0)]) for text in wrap(item.answer.event_words(), size, room)]
+
+
+# ---- geometry of the drawing
+
+def finite(rings: Iterable[Ring]) -> List[Ring]:
+    """The rings that can be drawn."""
+    return [ring for ring in rings if ring and all(math.isfinite(c) and abs(c) < 1e150 for p in ring for c in p)]
+
+
+Placing = Callable[[Point], Point]
+
+
+def placing(rings: Sequence[Ring], left: float, top: float, wide: float, high: float, up: bool) -> Placing:
+    """Fits the rings into a box: one scale for both axes."""
+    east, north = [p[0] for r in rings for p in r], [p[1] for r in rings for p in r]
+    scale = min((wide - 2 * PAD) / ((max(east) - min(east)) or 1), (high - 2 * PAD) / ((max(north) - min(north)) or 1))
+    middle = (min(east) + max(east)) / 2, (min(north) + max(north)) / 2
+    turn = -scale if up else scale
+    return lambda p: (left + wide / 2 + (p[0] - middle[0]) * scale, top + high / 2 + (p[1] - middle[1]) * turn)
+
+
+def path(rings: Iterable[Ring], place: Placing) -> str:
+    """The rings as path data."""
+    return "".join("M" + "L".join("{:.2f} {:.2f}".format(*place(p)) for p in ring) + "Z" for ring in rings)
+
+
+def ends(ring: Ring, edge: int) -> Tuple[Point, Point]:
+    """Where an edge starts and ends."""
+    return ring[edge % len(ring)], ring[(edge + 1) % len(ring)]
+
+
+def away(p: Point, a: Point, b: Point) -> float:
+    """How far a point is from a segment."""
+    x, y = b[0] - a[0], b[1] - a[1]
+    length = x * x + y * y
+    t = max(0.0, min(1.0, ((p[0] - a[0]) * x + (p[1] - a[1]) * y) / length)) if length else 0.0
+    return math.hypot(p[0] - a[0] - t * x, p[1] - a[1] - t * y)
+
+
+def meeting(a: Point, b: Point, c: Point, d: Point) -> Point:
+    """Where two segments that meet do so; where they touch, the end that lies on the other."""
+    r, s = (b[0] - a[0], b[1] - a[1]), (d[0] - c[0], d[1] - c[1])
+    turn = r[0] * s[1] - r[1] * s[0]
+    if turn:
+        t = ((c[0] - a[0]) * s[1] - (c[1] - a[1]) * s[0]) / turn
+        u = ((c[0] - a[0]) * r[1] - (c[1] - a[1]) * r[0]) / turn
+        if -1e-9 <= t <= 1 + 1e-9 and -1e-9 <= u <= 1 + 1e-9:
+            return a[0] + t * r[0], a[1] + t * r[1]
+    shared = {a, b} & {c, d}
+    options = [(away(p, c, d), p) for p in (a, b) if p not in shared] + [(away(p, a, b), p) for p in (c, d) if p not in shared]
+    return min(options)[1] if options else a
+
+
+def beside(edge: Tuple[Point, Point], text: str, size: float, walls: Sequence[Tuple[Point, Point]], spot: Point,
+           taken: Sequence[Tuple[Point, str]], box: Tuple[float, float, float, float]) -> Point:
+    """A place for a number beside an edge: clear of the other edges, of the spot and of what is taken, inside the box."""
+    (ax, ay), (bx, by) = edge
+    length, half = math.hypot(bx - ax, by - ay) or 1.0, width(text, size, True) / 2
+    best, best_score = ((ax + bx) / 2, (ay + by) / 2), -math.inf
+    for t in (0.5, 0.38, 0.62, 0.26, 0.74, 0.14, 0.86):
+        for side in (0.85, -0.85, 1.6, -1.6):
+            p = ax + t * (bx - ax) - side * size * (by - ay) / length, ay + t * (by - ay) + side * size * (bx - ax) / length
+            p = min(max(p[0], box[0] + half), box[2] - half), min(max(p[1], box[1] + size / 2), box[3] - size / 2)
+            clear = min([away(p, *wall) for wall in walls], default=size)
+            over = sum(1 for q, other in taken if abs(p[1] - q[1]) < size
+                       and abs(p[0] - q[0]) < half + width(other, size, True) / 2 + 0.2 * size)
+            score = (min(clear, size) + min(math.dist(p, spot), 2 * size) - 10 * size * over
+                     - 0.1 * size * abs(t - 0.5) - 0.4 * size * (abs(side) > 1))
+            if score > best_score:
+                best, best_score = p, score
+    return best
+
+
+# ---- the parts of the picture
+
+class Page:
+    """What has been drawn so far: shapes, and the words in both sizes."""
+
+    def __init__(self, columns: int) -> None:
+        self.columns = columns
+        self.cell = ONE_CELL if columns == 1 else CELL
+        self.high = round(0.65 * self.cell)
+        self.across = 2 * MARGIN + columns * self.cell + (columns - 1) * GAP
+        self.phone = PHONE_TEXT * self.across / PHONE_SCREEN
+        self.wide = WIDE_TEXT * self.across / WIDE_SCREEN if columns > 1 else 11.5
+        self.shapes: List[str] = []
+        self.words = {"wide": [], "phone": []}  # type: dict
+
+    def sizes(self) -> List[Tuple[str, float]]:
+        """The two sizes of words."""
+        return [("wide", self.wide), ("phone", self.phone)]
+
+    def left(self, column: int) -> float:
+        """Where a column starts."""
+        return MARGIN + column * (self.cell + GAP)
+
+    def say(self, kind: str, x: float, y: float, text: str, style: str) -> None:
+        """Puts words down."""
+        styled = f' class="{style}"' if style else ""
+        self.words[kind].append(f'<text{styled} x="{x:.1f}" y="{y:.1f}">{escape(text)}</text>')
+
+
+def drawing(page: Page, item: Item, left: float, top: float) -> None:
+    """The outline, its cage, and what is marked."""
+    rings, cage = finite(item.rings), finite(item.answer.rings)
+    if not rings and not cage:
+        for kind, size in page.sizes():
+            page.say(kind, left, top + page.high / 2, "nothing to draw", "soft")
+        return
+    place = placing(rings + cage, left, top, page.cell, page.high, item.up)
+    page.shapes.append(f'<path class="source{" refused" if item.answer.refused else ""}" d="{path(rings, place)}"/>')
+    if cage:
+        page.shapes.append(f'<path class="cage" d="{path(cage, place)}"/>')
+        vertices(page, [[place(p) for p in ring] for ring in cage])
+    if item.answer.refused and len(rings) == len(item.rings):
+        marks(page, item, place, left, top)
+
+
+def vertices(page: Page, rings: List[Ring]) -> None:
+    """A dot at each vertex, as large as the edges between them allow."""
+    lengths = sorted(math.dist(p, q) for ring in rings for p, q in zip(ring, ring[1:] + ring[:1]))
+    size = min(3.4, 0.35 * lengths[len(lengths) // 8])
+    if size >= 1.4:
+        page.shapes += ['<circle class="vertex" cx="{:.2f}" cy="{:.2f}" r="{:.1f}"/>'.format(*p, size) for r in rings for p in r]
+
+
+def marks(page: Page, item: Item, place: Placing, left: float, top: float) -> None:
+    """The two edges of a 9 with their numbers; the holes of an 11 or a 12."""
+    number, values = item.answer.refused.number, item.answer.refused.values
+    if number == 9 and values and values["ring"] < len(item.rings):
+        crossing(page, item, place, (left, top, left + page.cell, top + page.high))
+    holes = [values["hole"]] if number == 11 and values else [values["first"], values["second"]] if number == 12 and values else []
+    marked = [item.rings[hole + 1] for hole in holes if hole + 1 < len(item.rings)]
+    if marked:
+        page.shapes.append(f'<path class="mark" d="{path(marked, place)}"/>')
+
+
+def crossing(page: Page, item: Item, place: Placing, box: Tuple[float, float, float, float]) -> None:
+    """Two edges that cross: drawn thick, the place ringed, their numbers beside them."""
+    values = item.answer.refused.values
+    rings = [[place(p) for p in ring] for ring in item.rings]
+    ring = rings[values["ring"]]
+    edges = [ends(ring, values["first"]), ends(ring, values["second"])]
+    for a, b in edges:
+        page.shapes.append('<path class="mark" d="M{:.2f} {:.2f}L{:.2f} {:.2f}"/>'.format(*a, *b))
+    spot = meeting(*edges[0], *edges[1])
+    page.shapes.append('<circle class="spot" cx="{:.2f}" cy="{:.2f}" r="10"/>'.format(*spot))
+    walls = [ends(r, k) for r in rings for k in range(len(r))]
+    for kind, size in page.sizes():
+        taken: List[Tuple[Point, str]] = []
+        for number, edge in zip((str(values["first"]), str(values["second"])), edges):
+            at = beside(edge, number, size, walls, spot, taken, box)
+            taken.append((at, number))
+            page.say(kind, at[0], at[1] + 0.36 * size, number, "edge")
+
+
+def legend(page: Page, items: Sequence[Item], top: float) -> float:
+    """What the colours mean, of what there is; where it ends."""
+    refused = {item.answer.refused.number for item in items if item.answer.refused}
+    rows = [('<path class="source" d="M{0} {1}h40v20h-40z"/>', "outline, as drawn")]
+    if any(item.answer.rings for item in items):
+        rows.append(('<path class="cage" d="M{0} {2}h40"/><circle class="vertex" cx="{0}" cy="{2}" r="3.4"/>'
+                     '<circle class="vertex" cx="{3}" cy="{2}" r="3.4"/>', "its cage"))
+    if refused:
+        rows.append(('<path class="source refused" d="M{0} {1}h40v20h-40z"/>', "no cage: refused"))
+    if refused & {9, 11, 12}:
+        rows.append(('<path class="mark" d="M{0} {1}l40 20m-40 0l40 -20"/>',
+                     "edges that cross" if not refused & {11, 12} else "where it fails"))
+    step = max(36, 1.25 * page.phone)
+    for k, (mark, words) in enumerate(rows):
+        x, y = MARGIN + k % 2 * (page.across - 2 * MARGIN + GAP) / 2 + 4, top + k // 2 * step
+        page.shapes.append(mark.format(x, y, y + 10, x + 40))
+        for kind, size in page.sizes():
+            page.say(kind, x + 54, y + 10 + 0.36 * size, words, "")
+    return top + ((len(rows) - 1) // 2 + 1) * step
+
+
+def picture(items: Sequence[Item], columns: Optional[int] = None) -> str:
+    """The picture of some outlines with their answers: two columns, one where there is one outline, or as many as are asked for."""
+    page = Page(max(1, columns or min(2, len(items))))
+    bottom = legend(page, items, MARGIN) + 8
+    for start in range(0, len(items), page.columns):
+        row = items[start:start + page.columns]
+        most = bottom + page.high
+        for column, item in enumerate(row):
+            left = page.left(column)
+            drawing(page, item, left, bottom)
+            for kind, size in page.sizes():
+                for k, line in enumerate(label(item, size, page.cell)):
+                    y = bottom + page.high + 6 + (k + 0.8) * 1.25 * size
+                    most = max(most, y + 0.3 * size)
+                    for text, style, right in line.parts:
+                        page.say(kind, left + right, y, text, style)
+        bottom = most + 22
+    return _whole(page, items, bottom)
+
+
+# ---- each in its place
+
+IN_PLACE = """
+  path {{ vector-effect: non-scaling-stroke; stroke-linejoin: round; fill-rule: evenodd; }}
+  .source {{ fill: #d9e8f4; stroke: #1668a6; stroke-width: 1.5px; }}
+  .refused {{ fill: #ececec; stroke: #66717e; stroke-dasharray: 6 4; }}
+  .cage {{ fill: none; stroke: #c2410c; stroke-width: 2.2px; }}
+  .mark {{ fill: none; stroke: #111827; stroke-width: 4px; stroke-linecap: round; }}
+"""
+
+
+def in_place(items: Sequence[Item]) -> str:
+    """The outlines and cages where they are, digit for digit, for a drawing program to open. The words are titles of the parts."""
+    out: List[str] = []
+    east, north = [], []
+    for item in items:
+        turn = -1.0 if item.up else 1.0
+        rings = [[(p[0], turn * p[1]) for p in ring] for ring in finite(item.rings)]
+        cage = [[(p[0], turn * p[1]) for p in ring] for ring in finite(item.answer.rings)]
+        east += [p[0] for ring in rings + cage for p in ring]
+        north += [p[1] for ring in rings + cage for p in ring]
+        name = clean(item.name)
+        out.append(f"<g><title>{escape(name)}, {item.asked()}: {escape(clean(item.words()))}</title>")
+        kind = "source refused" if item.answer.refused else "source"
+        out.append(f'<path class="{kind}" d="{_exact(rings)}"><title>{escape(name)}</title></path>')
+        if cage:
+            out.append(f'<path class="cage" d="{_exact(cage)}"><title>{escape(name)} cage</title></path>')
+        values = item.answer.refused.values if item.answer.refused and item.answer.refused.number == 9 else None
+        if values and len(rings) == len(item.rings):
+            for key in ("first", "second"):
+                out.append(f'<path class="mark" d="{_exact([list(ends(rings[values["ring"]], values[key]))])[:-1]}"/>')
+        out.append("</g>")
+    left, top = min(east, default=0.0), min(north, default=0.0)
+    wide, high = max(east, default=1.0) - left, max(north, default=1.0) - top
+    edge = 0.04 * max(wide, high, 1e-9)
+    box = f"{left - edge!r} {top - edge!r} {wide + 2 * edge!r} {high + 2 * edge!r}"
+    return "\n".join([f'<svg xmlns="http://www.w3.org/2000/svg" viewBox="{box}" width="100%">',
+                      f"<title>{escape(_said(items))}</title>", f"<style>{IN_PLACE.format()}</style>", *out, "</svg>", ""])
+
+
+def _exact(rings: Iterable[Ring]) -> str:
+    """Path data with every digit."""
+    return "".join("M" + "L".join(f"{p[0]!r} {p[1]!r}" for p in ring) + "Z" for ring in rings)
+
+
+def _said(items: Sequence[Item]) -> str:
+    refused = sum(1 for item in items if item.answer.refused)
+    return f"{len(items)} outline{'s' * (len(items) != 1)}: {len(items) - refused} with a cage, {refused} refused"
+
+
+def _whole(page: Page, items: Sequence[Item], high: float) -> str:
+    said = _said(items)
+    style = STYLE.format(most=page.across * 1.35 if page.columns > 1 else 720, wide=page.wide, phone=page.phone)
+    return "\n".join([
+        f'<svg xmlns="http://www.w3.org/2000/svg" viewBox="0 0 {page.across} {high:.0f}" width="100%" role="img" '
+        f"aria-label={quoteattr(said)}>",
+        f"<title>{escape(said)}</title>",
+        f"<style>{style}</style>",
+        f'<rect class="page" width="{page.across}" height="{high:.0f}" rx="12"/>',
+        *page.shapes,
+        *(f'<g class="{kind}">\n' + "\n".join(words) + "\n</g>" for kind, words in page.words.items()),
+        "</svg>", ""])

@@ -1,0 +1,213 @@
+"""Job lines and answer lines.
+
+A job is one line: ``inset`` or ``outset``, distance, ring count, vertex counts,
+coordinates, parted by commas. A float is the 16 hexadecimal digits of its bits. The
+answer is ``ok``, ring count, vertex counts, coordinates; or ``no`` and a number.
+"""
+import ctypes
+import math
+import re
+import struct
+from typing import BinaryIO, Iterable, Iterator, List, Optional, Sequence, Union
+
+from . import _library
+from .refusals import Refused, from_lists, short
+from .shapes import Events, Outline, Region, Ring, _numbers, _parted, _rings
+
+_FLOAT = re.compile(rb"[0-9a-f]{16}\Z")
+_COUNT = re.compile(rb"(0|[1-9][0-9]{0,2})\Z")
+
+
+def _hex(number: float) -> str:
+    return struct.pack(">d", number).hex()
+
+
+def _float(field: bytes) -> float:
+    if not _FLOAT.match(field):
+        raise Refused(22)
+    return struct.unpack(">d", bytes.fromhex(field.decode()))[0]
+
+
+def _count(field: bytes) -> int:
+    if not _COUNT.match(field):
+        raise Refused(22)
+    return int(field)
+
+
+def _rings_of(numbers: Sequence[float], counts: Sequence[int]) -> List[Ring]:
+    """The rings, or none where the counts do not add up to the points."""
+    if len(numbers) % 2 or 2 * sum(counts) != len(numbers):
+        return []
+    return _parted(numbers, counts)
+
+
+class Job:
+    """A job: ``side`` is "inset" or "outset"; ``counts`` has the vertices of each ring, ``numbers`` the coordinates."""
+
+    def __init__(self, side: str, distance: float, counts: Sequence[int], numbers: Sequence[float]) -> None:
+        if side not in ("inset", "outset"):
+            raise ValueError(f"a job is an inset or an outset, and not {side!r}")
+        self.side, self.distance = side, float(distance)
+        self.counts, self.numbers = list(counts), [float(number) for number in numbers]
+
+    @classmethod
+    def of(cls, side: str, distance: float, rings: Iterable) -> "Job":
+        """The job of one ring, or of a list of rings."""
+        lists = [_numbers(ring) for ring in _rings(rings)]
+        return cls(side, distance, [len(n) // 2 for n in lists], [number for n in lists for number in n])
+
+    @classmethod
+    def read(cls, line: Union[bytes, str]) -> "Job":
+        """The job of a line without its line feed. Raises :class:`Refused` with 22 where it is none."""
+        text = line.encode("utf-8", "surrogateescape") if isinstance(line, str) else line
+        fields = text.split(b",")
+        if len(text) > _library.LINE_BYTES or len(fields) < 3 or fields[0] not in (b"inset", b"outset"):
+            raise Refused(22)
+        distance, rings = _float(fields[1]), _count(fields[2])
+        if len(fields) < 3 + rings or (fields[0] == b"outset" and rings != 1):
+            raise Refused(22)
+        counts = [_count(field) for field in fields[3:3 + rings]]
+        return cls(fields[0].decode(), distance, counts, [_float(field) for field in fields[3 + rings:]])
+
+    @property
+    def rings(self) -> List[Ring]:
+        """Its rings; none where the counts do not add up to the points."""
+        return _rings_of(self.numbers, self.counts)
+
+    def line(self) -> str:
+        """The job line, without line feed. Raises ValueError for what no job line can say."""
+        if self.side == "outset" and len(self.counts) != 1:
+            raise ValueError("an outset is of one ring")
+        fields = [self.side, _hex(self.distance), str(len(self.counts)), *map(str, self.counts), *map(_hex, self.numbers)]
+        line = ",".join(fields)
+        if max([len(self.counts), *self.counts]) > 999 or len(line) > _library.LINE_BYTES:
+            raise ValueError(f"{len(self.numbers) // 2} vertices are too many for a job line")
+        return line
+
+    def answer(self) -> "Answer":
+        """Its answer, by the library's functions over numbers."""
+        try:
+            if len(self.counts) != 1:
+                cage = Region.from_numbers(self.numbers, self.counts).inset(self.distance)
+            else:
+                self._ask_lengths()
+                outline = Outline.from_numbers(self.numbers)
+                cage = outline.inset(self.distance) if self.side == "inset" else outline.outset(self.distance)
+        except Refused as refusal:
+            return Answer([], refusal, Events(refusal.collapses, refusal.divides, refusal.joins))
+        return Answer(cage.rings, None, cage.events)
+
+    def _ask_lengths(self) -> None:
+        """Questions 1, 2 and 3. Of an outline the library asks 1 and 2 alone, and 3 comes before its other questions."""
+        if len(self.numbers) % 2:
+            raise Refused(1)
+        for index, number in enumerate(self.numbers):
+            if not math.isfinite(number):
+                raise Refused(2, {"index": index})
+        if 2 * sum(self.counts) != len(self.numbers):
+            raise Refused(3)
+
+    def __eq__(self, other: object) -> bool:
+        return isinstance(other, Job) and self.__dict__ == other.__dict__
+
+    def __repr__(self) -> str:
+        return f"<Job: {self.side} {short(self.distance)} of {' + '.join(map(str, self.counts)) or 'no'} vertices>"
+
+
+class Answer:
+    """What a job came to: ``rings``, or why there are none in ``refused``; ``events`` where they are known."""
+
+    def __init__(self, rings: List[Ring], refused: Optional[Refused], events: Optional[Events] = None) -> None:
+        self.rings, self.refused, self.events = rings, refused, events
+
+    @classmethod
+    def read(cls, line: Union[bytes, str]) -> "Answer":
+        """The answer of a line without its line feed. What the reference in ``oracle/`` adds to a line with ``--full`` is read, too.
+
+        Raises ValueError where it is no answer line.
+        """
+        text = line.decode("ascii", "replace") if isinstance(line, bytes) else line
+        parts = text.split(";")
+        fields = parts[0].split(",")
+        try:
+            told = {key: [v for v in value.split(",") if v] for key, value in (part.split("=", 1) for part in parts[1:])}
+            wholes = {key: [int(v) for v in told.get(key, [])] for key in ("ring", "wholes", "events")}
+            events = Events(*wholes["events"]) if len(wholes["events"]) == 3 else None
+            if fields[0] == "no" and len(fields) == 2:
+                floats = [_float(v.encode()) for v in told.get("floats", [])]
+                return cls([], from_lists(int(fields[1]), wholes["ring"], wholes["wholes"], floats), events)
+            if fields[0] == "ok":
+                count = int(fields[1])
+                counts = [int(field) for field in fields[2:2 + count]]
+                rings = _rings_of([_float(field.encode()) for field in fields[2 + count:]], counts)
+                if rings and len(rings) == count:
+                    return cls(rings, None, events)
+        except (IndexError, ValueError):
+            pass
+        raise ValueError(f"not an answer line: {text[:60]!r}")
+
+    def line(self) -> str:
+        """The answer line, without line feed. A zero has no sign."""
+        if self.refused:
+            return f"no,{self.refused.number}"
+        numbers = [0.0 if number == 0 else number for ring in self.rings for point in ring for number in point]
+        return ",".join(["ok", str(len(self.rings)), *(str(len(ring)) for ring in self.rings), *map(_hex, numbers)])
+
+    def words(self) -> str:
+        """The answer in a few words."""
+        if self.refused:
+            return self.refused.words
+        return "cage of " + " + ".join(str(len(ring)) for ring in self.rings) + " vertices"
+
+    def event_words(self) -> str:
+        """What the offset did on its way, in words; nothing where nothing happened or nothing is known."""
+        names = (("collapse", "collapses"), ("division", "divisions"), ("join", "joins"))
+        return ", ".join(f"{n} {name[n > 1]}" for n, name in zip(self.events or (), names) if n)
+
+
+def answer_line(line: bytes) -> bytes:
+    """The answer line to a job line, both without line feed. A refused job is an answer, too."""
+    if _library.has("lw_job_line"):
+        out = (ctypes.c_uint8 * _library.LINE_BYTES)()
+        answer = _library.call("lw_job_line", line, len(line), out, len(out))
+        if answer.refusal:
+            raise Refused(answer.refusal, {"needed": answer.count})
+        return ctypes.string_at(out, answer.count)
+    try:
+        job = Job.read(line)
+    except Refused as refusal:
+        return b"no,%d" % refusal.number
+    return job.answer().line().encode()
+
+
+def lines(stream: BinaryIO) -> Iterator[bytes]:
+    """The lines of a stream without their line feeds; of one that is too long, one byte more than is allowed."""
+    most = _library.LINE_BYTES + 1
+    while True:
+        line = stream.readline(most + 1)
+        if not line:
+            return
+        part = line
+        while not part.endswith(b"\n"):
+            part = stream.readline(1 << 16)
+            if not part:
+                break
+        yield line[:-1] if line.endswith(b"\n") else line[:most]
+
+
+def read_jobs(path: str) -> List[Union[Job, Refused]]:
+    """The jobs of a file, a line each; a line that is no job is its refusal."""
+    jobs: List[Union[Job, Refused]] = []
+    with open(path, "rb") as stream:
+        for line in lines(stream):
+            try:
+                jobs.append(Job.read(line))
+            except Refused as refusal:
+                jobs.append(refusal)
+    return jobs
+
+
+def write_jobs(path: str, jobs: Iterable[Job]) -> None:
+    """Writes jobs to a file, a line each."""
+    with open(path, "w", encoding="ascii", newline="\n") as stream:
+        stream.writelines(job.line() + "\n" for job in jobs)

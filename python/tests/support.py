@@ -1,0 +1,58 @@
+"""What the tests share."""
+import os
+import subprocess
+import sys
+import tempfile
+import unittest
+
+from lizardwire import _library
+
+HERE = os.path.dirname(os.path.abspath(__file__))
+PYTHON = os.path.dirname(HERE)
+TOP = os.path.dirname(PYTHON)
+
+SQUARE = [(0.0, 0.0), (4.0, 0.0), (4.0, 4.0), (0.0, 4.0)]
+BOW = [(0, 0), (4, 4), (4, 0), (0, 2)]
+PANE = [[(0, 0), (10, 0), (10, 10), (0, 10)], [(4, 4), (6, 4), (6, 6), (4, 6)]]
+
+JOB = ("inset,3ff0000000000000,1,4,0000000000000000,0000000000000000,4010000000000000,0000000000000000,"
+       "4010000000000000,4010000000000000,0000000000000000,4010000000000000")
+ANSWER = ("ok,1,4,3ff0000000000000,3ff0000000000000,4008000000000000,3ff0000000000000,"
+          "4008000000000000,4008000000000000,3ff0000000000000,4008000000000000")
+
+# Left out until the library has them.
+regions = unittest.skipUnless(_library.has("lw_region") and _library.has("lw_region_inset"), "no regions in this library")
+job_lines = unittest.skipUnless(_library.has("lw_job_line"), "no job lines in this library")
+
+
+def comb(count):
+    """A ring of so many vertices."""
+    return [(float(k), 1.0 + k % 2) for k in range(count - 2)] + [(float(count), 9.0), (0.0, 9.0)]
+
+
+def run(*words, given=b"", **more):
+    """``python -m lizardwire`` with these words: status, output, what went to standard error."""
+    environment = {**os.environ, "PYTHONPATH": PYTHON, "PYTHONDONTWRITEBYTECODE": "1", **more}
+    done = subprocess.run([sys.executable, "-m", "lizardwire", *words], input=given, capture_output=True, env=environment)
+    return done.returncode, done.stdout, done.stderr.decode()
+
+
+class Folder(unittest.TestCase):
+    """A test with a folder of its own."""
+
+    def setUp(self):
+        folder = tempfile.TemporaryDirectory()
+        self.addCleanup(folder.cleanup)
+        self.folder = folder.name
+
+    def put(self, name, text):
+        """A file in the folder; its path."""
+        path = os.path.join(self.folder, name)
+        with open(path, "wb") as stream:
+            stream.write(text if isinstance(text, bytes) else text.encode())
+        return path
+
+    def get(self, name):
+        """What a file of the folder holds."""
+        with open(os.path.join(self.folder, name), "rb") as stream:
+            return stream.read().decode()

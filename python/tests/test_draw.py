@@ -1,0 +1,190 @@
+"""Pictures: what they show, and that nothing in them overlaps or sticks out."""
+import math
+import random
+import re
+import unittest
+import xml.etree.ElementTree as ElementTree
+
+from lizardwire import Answer, Job, Refused, svg
+from lizardwire.draw import Item, Page, cut, in_place, meeting, picture, width, wrap
+from tests.support import BOW, PANE, SQUARE
+
+SPACE = "{http://www.w3.org/2000/svg}"
+
+
+def item(ring, distance=1, name="part", side="inset", up=True):
+    job = Job.of(side, distance, ring)
+    return Item(name, side, distance, job.rings, job.answer(), up)
+
+
+def told(number, values, rings):
+    return Item("part", "inset", 1, rings, Answer([], Refused(number, values)))
+
+
+def parse(items, columns=None):
+    return ElementTree.fromstring(picture(items, columns))
+
+
+def classes(root, name):
+    return [e for e in root.iter() if name in e.get("class", "").split()]
+
+
+def texts(root, kind):
+    return [t for g in root.iter(SPACE + "g") if g.get("class") == kind for t in g]
+
+
+def points(element):
+    numbers = [float(n) for n in re.findall(r"-?\d+\.?\d*", element.get("d"))]
+    return list(zip(numbers[::2], numbers[1::2]))
+
+
+class Pictures(unittest.TestCase):
+    def test_source_and_cage(self):
+        root = parse([item(SQUARE)])
+        source, cage = classes(root, "source")[1], classes(root, "cage")[1]
+        self.assertEqual((len(points(source)), len(points(cage))), (4, 4))
+        self.assertEqual(len(classes(root, "vertex")), 2 + 4)
+        said = [t.text for t in texts(root, "wide")]
+        self.assertEqual(said, ["outline, as drawn", "its cage", "part", "inset 1", "cage of 4 vertices"])
+
+    def test_north_is_up_for_jobs_and_down_as_drawn(self):
+        triangle = [(0, 0), (9, 0), (0, 9)]
+        up, down = (points(classes(parse([item(triangle, up=up)]), "source")[1]) for up in (True, False))
+        self.assertGreater(up[0][1], up[2][1])
+        self.assertLess(down[0][1], down[2][1])
+        self.assertLess(up[0][0], up[1][0])
+        self.assertLess(down[0][0], down[1][0])
+
+    def test_one_scale_for_both_axes(self):
+        p = points(classes(parse([item([(0, 0), (90, 0), (90, 30), (0, 30)])]), "source")[1])
+        self.assertAlmostEqual(math.dist(p[0], p[1]), 3 * math.dist(p[1], p[2]), delta=0.1)
+
+    def test_crossing_edges_are_marked(self):
+        root = parse([item(BOW)])
+        marks = classes(root, "mark")
+        self.assertEqual(len(marks), 1 + 2)
+        source = points(classes(root, "refused")[1])
+        self.assertEqual([points(mark) for mark in marks[1:]], [[source[0], source[1]], [source[2], source[3]]])
+        self.assertEqual(len(classes(root, "spot")), 1)
+        self.assertEqual([t.text for t in texts(root, "phone") if t.get("class") == "edge"], ["0", "2"])
+        self.assertIn("no, 9: edge 0 crosses edge 2", [t.text for t in texts(root, "wide")])
+
+    def test_holes_are_marked(self):
+        rings = PANE + [[(5, 5), (7, 5), (7, 7), (5, 7)]]
+        both, one = told(12, {"first": 0, "second": 1}, rings), told(11, {"hole": 1}, rings)
+        self.assertEqual(len(points(classes(parse([both]), "mark")[1])), 8)
+        self.assertEqual(len(points(classes(parse([one]), "mark")[1])), 4)
+        self.assertIn("fill-rule: evenodd", picture([one]))
+
+    def test_refused_in_words(self):
+        root = parse([item(SQUARE, 2)])
+        self.assertEqual(len(classes(root, "cage")), 0)
+        self.assertEqual([t.text for t in classes(root, "no")][0], "no, 16: nothing is left: the margin 2 is too wide")
+
+    def test_what_cannot_be_drawn(self):
+        for rings in ([], [[(0.0, math.nan), (1, 1), (2, 2)]], [[(0.0, 1e300), (1, 1), (2, 2)]], [[(1.0, 1.0)] * 3]):
+            root = parse([told(2, {"index": 1}, rings)])
+            self.assertEqual([t.text for t in texts(root, "wide")].count("part"), 1)
+
+    def test_words_that_xml_cannot_hold(self):
+        root = parse([item(SQUARE, name='<a & "b">\x00\x1b\ud800')])
+        self.assertIn('<a & "b">', classes(root, "name")[0].text)
+
+    def test_it_is_as_wide_as_its_place(self):
+        for count in (1, 2, 5):
+            root = parse([item(SQUARE)] * count)
+            self.assertEqual(root.get("width"), "100%")
+            self.assertIsNone(root.get("height"))
+            self.assertEqual(root.get("viewBox").split()[:2], ["0", "0"])
+        self.assertEqual(len(texts(parse([item(SQUARE)] * 3, 3), "wide")), 2 + 3 * 3)
+
+
+class InPlace(unittest.TestCase):
+    def test_every_digit_is_kept(self):
+        ring = [(0.1, 0.2), (9.3, 1 / 3), (7.7, 8.123456789012345)]
+        for up in (False, True):
+            one = item(ring, 0.5, "a & b", up=up)
+            shapes, unread = svg.read(in_place([one]).encode())
+            self.assertEqual((len(shapes), unread), (2, []))
+            turn = -1 if up else 1
+            self.assertEqual(shapes[0], ("a & b", [[(x, turn * y) for x, y in ring]]))
+            self.assertEqual(shapes[1], ("a & b cage", [[(x, turn * y) for x, y in one.answer.rings[0]]]))
+
+    def test_refused(self):
+        root = ElementTree.fromstring(in_place([item(BOW)]))
+        self.assertEqual([len(points(mark)) for mark in classes(root, "mark")], [2, 2])
+        self.assertIn("part, inset 1: no, 9: edge 0 crosses edge 2", "".join(root.itertext()))
+
+    def test_all_is_in_the_box(self):
+        root = ElementTree.fromstring(in_place([item(SQUARE, side="outset"), item([(50, 50), (60, 50), (60, 60)])]))
+        left, top, wide, high = map(float, root.get("viewBox").split())
+        for shape in root.iter(SPACE + "path"):
+            for x, y in points(shape):
+                self.assertTrue(left < x < left + wide and top < y < top + high)
+        self.assertTrue(in_place([told(2, {"index": 0}, [])]).startswith("<svg"))
+
+
+class Room(unittest.TestCase):
+    """No words overlap, and nothing sticks out, whatever the names and answers are."""
+
+    def items(self):
+        draw = random.Random(5)
+        for k in range(40):
+            count = draw.randint(3, 40)
+            ring = [(draw.uniform(0, 100), draw.uniform(0, draw.choice((1, 50, 900)))) for _ in range(count)]
+            if k % 3:
+                ring = [((30 + 60 * draw.random()) * math.cos(2 * math.pi * j / count), 40 * math.sin(2 * math.pi * j / count))
+                        for j in range(count)]
+            name = "".join(draw.choice("abc defghimMW & 漢字é") for _ in range(draw.randint(0, 60)))
+            yield item(ring, draw.choice((0, 0.5, 3, 1e-7, 123456.789, -2)), name, draw.choice(("inset", "outset")))
+
+    def check(self, items, columns):
+        root = parse(items, columns)
+        page = Page(columns)
+        across, high = map(float, root.get("viewBox").split()[2:])
+        for kind, size in page.sizes():
+            boxes = []
+            for t in texts(root, kind):
+                x, y, wide = float(t.get("x")), float(t.get("y")), width(t.text or "", size, t.get("class") in ("name", "edge"))
+                if t.get("class") == "edge":
+                    x -= wide / 2
+                boxes.append((x, y - 0.75 * size, x + wide, y + 0.2 * size, t.text))
+            for k, a in enumerate(boxes):
+                self.assertTrue(a[0] >= 0 and a[1] >= 0 and a[2] <= across + 1 and a[3] <= high, a)
+                for b in boxes[:k]:
+                    self.assertTrue(a[2] <= b[0] + 0.5 or b[2] <= a[0] + 0.5 or a[3] <= b[1] + 0.5 or b[3] <= a[1] + 0.5, (a, b))
+        for shape in root.iter(SPACE + "path"):
+            if "h40" not in shape.get("d") and "l40" not in shape.get("d"):
+                for x, y in points(shape):
+                    self.assertTrue(0 <= x <= across and 0 <= y <= high, shape.get("d"))
+
+    def test_it(self):
+        items = list(self.items())
+        for columns in (1, 2, 3, 5):
+            self.check(items, columns)
+
+    def test_a_phone_reads_twelve_pixels(self):
+        for columns in (1, 2, 3, 5):
+            page = Page(columns)
+            self.assertAlmostEqual(page.phone * 360 / page.across, 12)
+
+
+class Parts(unittest.TestCase):
+    def test_wrap_and_cut(self):
+        self.assertEqual(wrap("", 10, 100), [])
+        for text in ("no, 9: edge 1 crosses edge 5", "a" * 200, "one two three four five six seven"):
+            for room in (60, 100, 300):
+                for line in wrap(text, 10, room):
+                    self.assertLessEqual(width(line, 10), room)
+        self.assertEqual(wrap("edge 0 crosses edge 2", 10, width("edge 0 crosses edge", 10)), ["edge 0 crosses", "edge 2"])
+        self.assertEqual(cut("short", 10, 100), "short")
+        self.assertTrue(cut("a rather long name", 10, 50).endswith("…"))
+
+    def test_meeting(self):
+        self.assertEqual(meeting((0, 0), (4, 4), (0, 4), (4, 0)), (2, 2))
+        self.assertEqual(meeting((4, 0), (4, 4), (4, 4), (4, 2)), (4, 2))
+        self.assertEqual(meeting((0, 0), (4, 0), (2, 0), (6, 0))[1], 0)
+
+
+if __name__ == "__main__":
+    unittest.main()

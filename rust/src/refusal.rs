@@ -1,0 +1,258 @@
+//! The refusal: the question that was answered with no, and what it carries.
+
+use std::fmt;
+
+/// The question that was answered with no, and what goes with it.
+///
+/// Rings, edges, vertices, holes and indices count from 0. Ring 0 is the outer one, ring k is hole k − 1, and edge k runs from
+/// vertex k to the next. `Few`, `Range` and `Room` can also come from an offset's result; `ring` is then its place among the
+/// finished rings.
+#[derive(Debug, Clone, Copy, PartialEq)]
+pub enum Refusal {
+    /// 1: the count of numbers is odd.
+    Odd,
+    /// 2: a number is not finite.
+    NotFinite {
+        /// Its index in the flat list.
+        index: usize,
+    },
+    /// 3: no ring, or ring lengths that do not add up to the points.
+    Lengths,
+    /// 4: fewer than three vertices.
+    Few {
+        /// The ring.
+        ring: usize,
+        /// Vertices found.
+        found: usize,
+    },
+    /// 5: a coordinate beyond ±1e9.
+    Range {
+        /// The ring.
+        ring: usize,
+        /// The coordinate.
+        value: f64,
+    },
+    /// 6: more vertices than there is room for.
+    Room {
+        /// The ring.
+        ring: usize,
+        /// Vertices that need room.
+        needed: usize,
+        /// The room: 128, for a hole 32.
+        room: usize,
+    },
+    /// 7: a vertex equal to its neighbour.
+    Repeated {
+        /// The ring.
+        ring: usize,
+    },
+    /// 8: an area of nothing beside the outline's span.
+    Flat {
+        /// The ring.
+        ring: usize,
+    },
+    /// 9: two edges cross or touch.
+    Crossed {
+        /// The ring.
+        ring: usize,
+        /// One edge.
+        first: usize,
+        /// The other.
+        second: usize,
+    },
+    /// 10: more than 8 holes.
+    ManyHoles {
+        /// Holes given.
+        holes: usize,
+    },
+    /// 11: a hole that reaches the outer ring or lies outside it.
+    HoleOutside {
+        /// The hole.
+        hole: usize,
+    },
+    /// 12: two holes that touch or overlap.
+    HolesTouch {
+        /// One hole.
+        first: usize,
+        /// The other.
+        second: usize,
+    },
+    /// 13: a distance that is not finite, or above 1e12.
+    Far,
+    /// 14: a distance below 0.
+    Negative {
+        /// The distance.
+        distance: f64,
+    },
+    /// 15: a front of more than 128 edges.
+    Slots {
+        /// Edges that need a place.
+        needed: usize,
+    },
+    /// 16: nothing is left at that distance.
+    Collapses {
+        /// The distance.
+        distance: f64,
+    },
+    /// 17: what is left is not one piece, or not clear of the source.
+    Splits {
+        /// The distance.
+        distance: f64,
+    },
+    /// 18: 387 events did not bring the front to the distance.
+    Unfinished {
+        /// 387.
+        events: usize,
+        /// What remained of the distance.
+        residual: f64,
+    },
+    /// 19: more than 8 holes are left.
+    ManyPieces {
+        /// 9.
+        needed: usize,
+    },
+    /// 20: the lent output is too short.
+    Short {
+        /// Numbers needed, two a vertex; of a job line, bytes.
+        needed: usize,
+    },
+    /// 21: a shape handed in is none: counts or coordinates out of bounds.
+    Shape,
+    /// 22: an ill-formed job line.
+    Job,
+}
+
+impl Refusal {
+    /// What a struct of the library says; `Ok` where it is granted.
+    pub(crate) fn told(
+        number: usize,
+        ring: usize,
+        first: usize,
+        second: usize,
+        value: f64,
+    ) -> Result<(), Self> {
+        Err(match number {
+            0 => return Ok(()),
+            1 => Self::Odd,
+            2 => Self::NotFinite { index: first },
+            3 => Self::Lengths,
+            4 => Self::Few { ring, found: first },
+            5 => Self::Range { ring, value },
+            6 => Self::Room {
+                ring,
+                needed: first,
+                room: second,
+            },
+            7 => Self::Repeated { ring },
+            8 => Self::Flat { ring },
+            9 => Self::Crossed {
+                ring,
+                first,
+                second,
+            },
+            10 => Self::ManyHoles { holes: first },
+            11 => Self::HoleOutside { hole: first },
+            12 => Self::HolesTouch { first, second },
+            13 => Self::Far,
+            14 => Self::Negative { distance: value },
+            15 => Self::Slots { needed: first },
+            16 => Self::Collapses { distance: value },
+            17 => Self::Splits { distance: value },
+            18 => Self::Unfinished {
+                events: first,
+                residual: value,
+            },
+            19 => Self::ManyPieces { needed: first },
+            20 => Self::Short { needed: first },
+            21 => Self::Shape,
+            22 => Self::Job,
+            other => unreachable!("the library answers 0 to 22, not {other}"),
+        })
+    }
+
+    /// The question's number, 1 to 22.
+    pub fn number(&self) -> usize {
+        match self {
+            Self::Odd => 1,
+            Self::NotFinite { .. } => 2,
+            Self::Lengths => 3,
+            Self::Few { .. } => 4,
+            Self::Range { .. } => 5,
+            Self::Room { .. } => 6,
+            Self::Repeated { .. } => 7,
+            Self::Flat { .. } => 8,
+            Self::Crossed { .. } => 9,
+            Self::ManyHoles { .. } => 10,
+            Self::HoleOutside { .. } => 11,
+            Self::HolesTouch { .. } => 12,
+            Self::Far => 13,
+            Self::Negative { .. } => 14,
+            Self::Slots { .. } => 15,
+            Self::Collapses { .. } => 16,
+            Self::Splits { .. } => 17,
+            Self::Unfinished { .. } => 18,
+            Self::ManyPieces { .. } => 19,
+            Self::Short { .. } => 20,
+            Self::Shape => 21,
+            Self::Job => 22,
+        }
+    }
+}
+
+impl fmt::Display for Refusal {
+    fn fmt(&self, f: &mut fmt::Formatter<'_>) -> fmt::Result {
+        match self {
+            Self::Odd => write!(f, "the count of numbers is odd: a vertex is two"),
+            Self::NotFinite { index } => write!(f, "number {index} is not finite"),
+            Self::Lengths => write!(
+                f,
+                "there is no ring, or the ring lengths do not add up to the points"
+            ),
+            Self::Few { ring, found } => {
+                write!(f, "ring {ring} has {found} vertices: three are needed")
+            }
+            Self::Range { ring, value } => write!(
+                f,
+                "a coordinate of ring {ring} is {value}: at most 1e9 either way is read"
+            ),
+            Self::Room { ring, needed, room } => write!(
+                f,
+                "ring {ring} has {needed} vertices: there is room for {room}"
+            ),
+            Self::Repeated { ring } => write!(f, "ring {ring} has the same vertex twice in a row"),
+            Self::Flat { ring } => write!(f, "ring {ring} is flat: it encloses nothing"),
+            Self::Crossed {
+                ring,
+                first,
+                second,
+            } => write!(f, "edge {first} crosses edge {second} in ring {ring}"),
+            Self::ManyHoles { holes } => write!(f, "{holes} holes are more than 8"),
+            Self::HoleOutside { hole } => {
+                write!(f, "hole {hole} does not lie inside the outer ring")
+            }
+            Self::HolesTouch { first, second } => write!(f, "hole {first} touches hole {second}"),
+            Self::Far => write!(f, "the distance is not a number up to 1e12"),
+            Self::Negative { distance } => write!(f, "the distance {distance} is below 0"),
+            Self::Slots { needed } => write!(f, "{needed} moving edges are more than 128"),
+            Self::Collapses { distance } => write!(f, "nothing is left at distance {distance}"),
+            Self::Splits { distance } => write!(
+                f,
+                "at distance {distance} the result is not one piece, clear of its source"
+            ),
+            Self::Unfinished { events, residual } => {
+                write!(f, "{events} events left {residual} of the distance to go")
+            }
+            Self::ManyPieces { needed } => {
+                write!(f, "{needed} holes would be left: at most 8 are kept")
+            }
+            Self::Short { needed } => write!(f, "the output is too short: {needed} are needed"),
+            Self::Shape => write!(
+                f,
+                "this is not a shape: counts or coordinates are out of bounds"
+            ),
+            Self::Job => write!(f, "this is not a job line"),
+        }
+    }
+}
+
+impl std::error::Error for Refusal {}
