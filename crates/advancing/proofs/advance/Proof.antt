@@ -53,7 +53,6 @@ plan-if-requires c κs = search needs
 act-of-requires : tie.Need-act-of-requires Inv-loop μ-loop
 act-of-requires c κs = search needs
 
--- /tmp/w/s4/target/rlib/front.rlib/interface/lang/src/lib.rt:6:41
 enum-told : tie.Need-enum-told Inv-loop μ-loop
 enum-told c = search needs
 
@@ -124,7 +123,6 @@ edge-or-requires-4 c κs = search needs
 vertex-by-requires : tie.Need-vertex-by-requires Inv-loop μ-loop
 vertex-by-requires c κs = search needs
 
--- /tmp/w/s4/target/rlib/front.rlib/interface/lang/src/lib.rt:6:41
 enum-told-3 : tie.Need-enum-told-3 Inv-loop μ-loop
 enum-told-3 c = search needs
 
