@@ -1,17 +1,12 @@
--- Which doubles are at least a number: by a magnitude, by a vector's larger side, and where the number is a NaN. Assumes nothing.
+-- Which doubles are at least a number, and where that is a NaN. Assumes nothing.
 use Prim.Native.Nat.{ℕ, _+_, _*_, _≤_}
 use native.Mathlib.Omega.{arith}
-use mathlib.Core.Path.{_≡_, refl, sym, ap, _∙_}
-use mathlib.Core.Bool.{Bool, true, false, cond, _&&_, _||_, true≢false, false≢true}
-use borrow.Author.Tests.{ltb-false, eqb-true, eq-eqb, le-ltb}
-use lib.Dec.{T, ltb, eqb}
-use lib.Ieee.{Float, nan, inf, fin, binary64, up, down, below, level, lt, le, eq, neg, fits, isNan}
+use mathlib.Core.Path.{_≡_, refl, sym, _∙_}
+use mathlib.Core.Bool.{Bool, true, false, _&&_, _||_, true≢false, false≢true}
+use borrow.Author.Tests.{ltb-false, eq-eqb}
+use lib.Dec.{ltb, eqb}
+use lib.Ieee.{Float, nan, inf, fin, up, down, below, level, lt, le, eq, isNan}
 use Rattle.math.proofs.Order.{under-not-over, under-nan, itself, short}
-use Rattle.math.specs.Number.{abs}
-use Rattle.math.proofs.Laws.{hypot-swap, hypot-not-below}
-use Rattle.plane.specs.declared.PlanarPoint.{PlanarPoint}
-use Rattle.plane.specs.Points.{length-of}
-use Rattle.clear.specs.Gaps.{larger, reach}
 
 -- ---- not below one another: at least
 
@@ -102,57 +97,3 @@ unfolding lt isNan
 lt-number nan y h = absurd (false≢true h)
 lt-number (inf s) y h = refl
 lt-number (fin s m e) y h = refl
-
--- ---- a magnitude
-
-second : (a b : ℕ) → (eqb a b && eqb a 0) ≡ true → a ≡ 0
-second a b h = go (eqb a b) (eqb a 0) refl h
-  where
-    go : (p q : Bool) → eqb a 0 ≡ q → (p && q) ≡ true → a ≡ 0
-    go true true e d = eqb-true a 0 e
-    go true false e d = absurd (false≢true d)
-    go false q e d = absurd (false≢true d)
-
-not-below-none : (a b : ℕ) → b ≡ 0 → ltb a b ≡ false
-not-below-none a b e = le-ltb a b (omega arith)
-
--- what is at least b has a magnitude that is not below b
-abs-not-below : (x b : Float) → le b x ≡ true → lt (abs x) b ≡ false
-unfolding abs lt le eq
-abs-not-below nan b h = refl
-abs-not-below (inf s) nan h = refl
-abs-not-below (inf s) (inf t) h = refl
-abs-not-below (inf s) (fin t n d) h = refl
-abs-not-below (fin false m e) b h = go (lt (fin false m e) b) refl
-  where
-    go : (t : Bool) → lt (fin false m e) b ≡ t → t ≡ false
-    go true g = sym (sym (under-not-over (fin false m e) b g) ∙ h)
-    go false g = refl
-abs-not-below (fin true m e) nan h = refl
-abs-not-below (fin true m e) (inf true) h = refl
-abs-not-below (fin true m e) (inf false) h = absurd (false≢true h)
-abs-not-below (fin true m e) (fin true n d) h = refl
-abs-not-below (fin true m e) (fin false n d) h = not-below-none (m * up e * down d) (n * up d * down e) (second (n * up d * down e) (m * up e * down d) h)
-
-abs-neg : (x : Float) → abs (neg x) ≡ abs x
-unfolding abs neg
-abs-neg nan = refl
-abs-neg (inf s) = refl
-abs-neg (fin s m e) = refl
-
-side-not-below : (x b : Float) → le b (larger x (neg x)) ≡ true → lt (abs x) b ≡ false
-unfolding larger
-side-not-below x b h = go (lt x (neg x)) h
-  where
-    go : (t : Bool) → le b (cond t (neg x) x) ≡ true → lt (abs x) b ≡ false
-    go true l = ap (λ (z : Float). lt z b) (sym (abs-neg x)) ∙ abs-not-below (neg x) b l
-    go false l = abs-not-below x b l
-
--- a vector whose larger side is at least b is not shorter than b
-pub reach-not-below : (v : PlanarPoint) (b : Float) → T (fits binary64 (v .east)) → T (fits binary64 (v .north)) → le b (reach v) ≡ true → lt (length-of v) b ≡ false
-unfolding reach length-of larger
-reach-not-below v b fe fn h = go (lt (larger (v .east) (neg (v .east))) (larger (v .north) (neg (v .north)))) h
-  where
-    go : (t : Bool) → le b (cond t (larger (v .north) (neg (v .north))) (larger (v .east) (neg (v .east)))) ≡ true → lt (length-of v) b ≡ false
-    go true l = ap (λ (z : Float). lt z b) (hypot-swap (v .east) (v .north)) ∙ hypot-not-below (v .north) (v .east) b fn (side-not-below (v .north) b l)
-    go false l = hypot-not-below (v .east) (v .north) b fe (side-not-below (v .east) b l)

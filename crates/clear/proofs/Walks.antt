@@ -5,24 +5,26 @@ use native.Mathlib.Omega.{arith}
 use mathlib.Core.Path.{_≡_, refl, sym, ap, _∙_, subst}
 use mathlib.Core.Bool.{Bool, true, false, not, _&&_, true≢false, false≢true}
 use mathlib.Core.List.{List}
-use lib.Ieee.{Float, binary64, lt, le, eq}
+use lib.Dec.{T}
+use lib.Ieee.{Float, binary64, lt, le, eq, fits}
 use lib.Ieee.Fits.{sub-fits}
 use Rattle.loops.specs.Loop.{rounds}
 use Rattle.loops.proofs.Laws.{next-round, stays-to}
 use Rattle.plane.specs.declared.PlanarPoint.{PlanarPoint}
 use Rattle.plane.specs.declared.Containment.{Containment}
 use Rattle.plane.specs.declared.Containment.the-variants.{Inside, OnBoundary, Outside}
-use Rattle.plane.specs.Plane.{sub}
+use Rattle.math.specs.Number.{mul}
+use Rattle.plane.specs.Plane.{sub, dot}
 use Rattle.plane.specs.Points.{length-of}
 use Rattle.segment.specs.Segments.{closest-on-segment}
 use Rattle.ring.specs.Ring.{vertex-at, edge-end}
 use Rattle.meet.proofs.Meetings.{walk-on, walk-found, walk-ends}
 use Rattle.contain.specs.Contains.{ring-contains}
-use Rattle.near.specs.Near.{nearest}
+use Rattle.near.specs.Near.{nearest, clearly}
+use Rattle.near.proofs.Leads.{not-shorter}
 use Rattle.offset.specs.Clear.{is-inside, is-outside, right-side, every-step, every-vertex}
 use Rattle.offset.specs.Offsets.{clear-of}
-use Rattle.clear.specs.Gaps.{reach, falls-short}
-use Rattle.clear.proofs.Magnitudes.{reach-not-below}
+use Rattle.clear.specs.Gaps.{falls-short}
 use Rattle.clear.proofs.Folds.{short-step, gap-short, gap-long}
 
 -- ---- the side of the source
@@ -43,13 +45,13 @@ side-outside false = refl
 
 -- ---- the gap of one edge
 module _ (p a b : PlanarPoint) (least : Float) (q v : PlanarPoint) where
-  -- without a root: a side of the vector reaches
-  pub far-edge : (r : Float) → q ≡ closest-on-segment p a b → v ≡ sub q p → r ≡ reach v → le least r ≡ true → false ≡ falls-short p a b least
+  -- without a root: the square is clearly above
+  pub far-edge : (w s : Float) (t : Bool) → T (fits binary64 least) → q ≡ closest-on-segment p a b → v ≡ sub q p → w ≡ dot v v → s ≡ mul least least → t ≡ clearly s w → t ≡ true → false ≡ falls-short p a b least
   unfolding falls-short sub
-  far-edge r eq ev er h =
+  far-edge w s t f eq ev ew es et h =
       sym (subst (λ (z : PlanarPoint). lt (length-of (sub z p)) least ≡ false) eq
-      (reach-not-below (sub q p) least (sub-fits binary64 (q .east) (p .east)) (sub-fits binary64 (q .north) (p .north))
-      (ap (λ (z : PlanarPoint). le least (reach z)) (sym ev) ∙ ap (le least) (sym er) ∙ h)))
+      (not-shorter least (sub q p) f (sub-fits binary64 (q .east) (p .east)) (sub-fits binary64 (q .north) (p .north))
+      (ap (λ (z : PlanarPoint). clearly (mul least least) (dot z z)) (sym ev) ∙ ap (λ (z : Float). clearly z (dot v v)) (sym es) ∙ ap (clearly s) (sym ew) ∙ sym et ∙ h)))
 
   -- by the root
   pub edge-by-root : (g : Float) → q ≡ closest-on-segment p a b → v ≡ sub q p → g ≡ length-of v → lt g least ≡ falls-short p a b least

@@ -1,17 +1,10 @@
 -- What the code asks of one edge in place of the nearest point: whether its gap is below a number. Assumes nothing.
-use mathlib.Core.Bool.{Bool, cond}
-use lib.Ieee.{Float, lt, neg}
+use mathlib.Core.Bool.{Bool}
+use lib.Ieee.{Float, lt}
 use Rattle.plane.specs.declared.PlanarPoint.{PlanarPoint}
 use Rattle.plane.specs.Plane.{sub}
 use Rattle.plane.specs.Points.{length-of}
 use Rattle.segment.specs.Segments.{closest-on-segment}
-
-unfoldable pub larger : Float → Float → Float
-larger x y = cond (lt x y) y x
-
--- the larger of a vector's two sides, without its sign
-unfoldable pub reach : PlanarPoint → Float
-reach v = larger (larger (v .east) (neg (v .east))) (larger (v .north) (neg (v .north)))
 
 -- the gap between p and the edge ab is below `least`
 unfoldable pub falls-short : PlanarPoint → PlanarPoint → PlanarPoint → Float → Bool
@@ -19,5 +12,5 @@ falls-short p a b least = lt (length-of (sub (closest-on-segment p a b) p)) leas
 
 -- opens every definition above, for a proof that computes with all of them
 unfoldable pub open-gaps : Unit {0}
-unfolding larger reach falls-short
+unfolding falls-short
 open-gaps = tt

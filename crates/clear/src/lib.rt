@@ -21,21 +21,12 @@ pub fn right_side(outward: bool, c: Containment) -> bool
     }
 }
 
-// The larger of a vector's two sides, without its sign.
-pub fn reach(v: PlanarPoint) -> f64
-    ensures { λ r. ⌜ r ≡ Gaps.reach v ⌝ }
-{
-    let east = math::choose(v.east < -v.east, -v.east, v.east);
-    let north = math::choose(v.north < -v.north, -v.north, v.north);
-    math::choose(east < north, north, east)
-}
-
-// Whether the gap between p and the edge ab is below `least`. A gap is at least each side of its vector, so it takes a root only where both are below.
+// Whether the gap between p and the edge ab is below `least`. A root is taken only where the squares do not tell.
 pub fn falls_short(p: PlanarPoint, a: PlanarPoint, b: PlanarPoint, least: f64) -> bool
     ensures { λ r. ⌜ r ≡ Gaps.falls-short p a b least ⌝ }
 {
     let v = plane::sub(segment::closest_on_segment(p, a, b), p);
-    if least <= reach(v) {
+    if near::clearly(least * least, plane::dot(v, v)) {
         return false;
     }
     plane::length_of(v) < least

@@ -28,7 +28,7 @@ use Rattle.near.specs.declared.Lead.{Lead}
 use Rattle.near.specs.Near
 use Rattle.near.specs.Near.{nearer, gap-to, nearest-step, none-yet, nearest, clearly, lead-to, no-lead, closer, leader, lead-between, lead-step, reached}
 use Rattle.near.proofs.Rounded
-use Rattle.near.proofs.Clear.{tiny-number, clearly-less}
+use Rattle.near.proofs.Clear.{tiny-number, clearly-less, clearly-past}
 
 -- ---- a lead whose square is its vector's
 record Good (s : Lead) : Type 0 where
@@ -56,13 +56,23 @@ both : (x y : Bool) → (x && y) ≡ true → (x ≡ true) × (y ≡ true)
 both true y h = (refl, h)
 both false y h = absurd (false≢true h)
 
-vectors-apart :
+-- what `clearly` says
+told-clearly : (v w : Float) → clearly v w ≡ true → (lt (mul Rounded.more v) w ≡ true) × (lt tiny-number w ≡ true)
+unfolding clearly
+told-clearly v w h =
+    let c = both (lt (mul Near.more v) w) (lt Near.tiny w) h in
+    (subst (λ (m : Float). lt (mul m v) w ≡ true) more-is (c .0), subst (λ (m : Float). lt m w ≡ true) tiny-is (c .1))
+
+pub vectors-apart :
     (d e : PlanarPoint) → T (fits binary64 (d .east)) → T (fits binary64 (d .north)) → T (fits binary64 (e .east)) → T (fits binary64 (e .north)) → clearly (dot d d) (dot e e) ≡ true →
     lt (length-of d) (length-of e) ≡ true
-unfolding clearly dot length-of
-vectors-apart d e fx fy fz ft h =
-    let c = both (lt (mul Near.more (dot d d)) (dot e e)) (lt Near.tiny (dot e e)) h in
-    clearly-less (d .east) (d .north) (e .east) (e .north) fx fy fz ft (subst (λ (m : Float). lt (mul m (dot d d)) (dot e e) ≡ true) more-is (c .0)) (subst (λ (m : Float). lt m (dot e e) ≡ true) tiny-is (c .1))
+unfolding dot length-of
+vectors-apart d e fx fy fz ft h = let c = told-clearly (dot d d) (dot e e) h in clearly-less (d .east) (d .north) (e .east) (e .north) fx fy fz ft (c .0) (c .1)
+
+-- a vector whose square is clearly above a number's is not shorter than the number
+pub not-shorter : (x : Float) (v : PlanarPoint) → T (fits binary64 x) → T (fits binary64 (v .east)) → T (fits binary64 (v .north)) → clearly (mul x x) (dot v v) ≡ true → lt (length-of v) x ≡ false
+unfolding dot length-of open-number
+not-shorter x v fx fe fn h = let c = told-clearly (mul x x) (dot v v) h in clearly-past x (v .east) (v .north) fx fe fn (c .0) (c .1)
 
 leads-apart : (c s : Lead) → Good c → Good s → clearly (c .square) (s .square) ≡ true → lt (length-of (c .offset)) (length-of (s .offset)) ≡ true
 leads-apart c s g f h = vectors-apart (c .offset) (s .offset) (g .east) (g .north) (f .east) (f .north) (rw (← g .square, ← f .square) h)

@@ -1,4 +1,4 @@
--- How far squares and sums are from what is rounded to them, in units of the smallest double: a 65536th part, and one unit. Assumes nothing.
+-- How far squares and sums are from what is rounded to them, in units of the smallest double: a part in 2 ^ 36, and one unit. Assumes nothing.
 use mathlib.Core.Path.{_≡_, refl, sym, ap, _∙_, subst}
 use mathlib.Core.Logic.{_⊎_, inl, inr}
 use mathlib.Core.Bool.{Bool, true, false, false≢true}
@@ -47,22 +47,22 @@ kept-ge p n den P K =
     le-trans (subst (λ (x : ℕ). 2 ^ (p - 1) ≤ x) (div-div-eq-div-mul n den (2 ^ k)) (le-div-iff-mul-le (pow-pos k) .1 a)) (nearest-ge (n / u) (compare (n % u * 2) u))
 
 -- the last digit kept is small beside the number, or it is the unit
-last-small : (n b : ℕ) → 65536 * (b * 2 ^ drop 53 n b) ≤ kept 53 n b * (b * 2 ^ drop 53 n b) + 65536 * b
+last-small : (n b : ℕ) → 68719476736 * (b * 2 ^ drop 53 n b) ≤ kept 53 n b * (b * 2 ^ drop 53 n b) + 68719476736 * b
 last-small n b = go (drop 53 n b) (kept 53 n b) (kept-ge 53 n b (omega arith))
   where
-    over : (q u : ℕ) → 65536 ≤ q → 65536 * u ≤ q * u + 65536 * b
+    over : (q u : ℕ) → 68719476736 ≤ q → 68719476736 * u ≤ q * u + 68719476736 * b
     over q u h = let m = mul-le-mul-right u h in omega arith
 
-    go : (k q : ℕ) → (0 < k → 2 ^ 52 ≤ q) → 65536 * (b * 2 ^ k) ≤ q * (b * 2 ^ k) + 65536 * b
+    go : (k q : ℕ) → (0 < k → 2 ^ 52 ≤ q) → 68719476736 * (b * 2 ^ k) ≤ q * (b * 2 ^ k) + 68719476736 * b
     go k q h = elim (eq-zero-or-pos k) [
-      | inl e ↦ subst (λ (j : ℕ). 65536 * (b * 2 ^ j) ≤ q * (b * 2 ^ j) + 65536 * b) (sym e) (rw (mul-one b) (omega arith))
+      | inl e ↦ subst (λ (j : ℕ). 68719476736 * (b * 2 ^ j) ≤ q * (b * 2 ^ j) + 68719476736 * b) (sym e) (rw (mul-one b) (omega arith))
       | inr p ↦ over q (b * 2 ^ k) (le-trans (omega arith) (h p))
     ]
 
 -- ---- what is rounded, n = a * unit / b, and g, what it is rounded to
 pub record Rounded (n g b : ℕ) : Type 0 where
-  pub low : 65536 * n ≤ 65537 * (g * b) + 65536 * b
-  pub high : 65535 * (g * b) ≤ 65536 * n + 65536 * b
+  pub low : 68719476736 * n ≤ 68719476737 * (g * b) + 68719476736 * b
+  pub high : 68719476735 * (g * b) ≤ 68719476736 * n + 68719476736 * b
 
 pub rounded : (a b : ℕ) → 0 < b → Rounded (a * 2 ^ 1074) (grid binary64 a b) b
 rounded a b B =
@@ -75,7 +75,7 @@ rounded a b B =
     swap : (q p : ℕ) → q * (b * p) ≡ q * p * b
     swap q p = simp poly
 
-    go : (n x u y : ℕ) → x ≡ y → n ≤ x + u → x ≤ n + u → 65536 * u ≤ x + 65536 * b → (65536 * n ≤ 65537 * y + 65536 * b) × (65535 * y ≤ 65536 * n + 65536 * b)
+    go : (n x u y : ℕ) → x ≡ y → n ≤ x + u → x ≤ n + u → 68719476736 * u ≤ x + 68719476736 * b → (68719476736 * n ≤ 68719476737 * y + 68719476736 * b) × (68719476735 * y ≤ 68719476736 * n + 68719476736 * b)
     go n x u y e l h s = (omega arith, omega arith)
 
 -- ---- a result that is not negative: NaN, the infinity of an infinite operand, or g units, of which P tells more; from 2 ^ 2098 on they are infinity
@@ -120,21 +120,21 @@ mag (inf s) = 0
 mag (fin s m e) = count m e
 
 pub record Square (X g : ℕ) : Type 0 where
-  pub low : 65536 * (X * X) ≤ 65537 * (g * 2 ^ 1074) + 65536 * 2 ^ 1074
-  pub high : 65535 * (g * 2 ^ 1074) ≤ 65536 * (X * X) + 65536 * 2 ^ 1074
+  pub low : 68719476736 * (X * X) ≤ 68719476737 * (g * 2 ^ 1074) + 68719476736 * 2 ^ 1074
+  pub high : 68719476735 * (g * 2 ^ 1074) ≤ 68719476736 * (X * X) + 68719476736 * 2 ^ 1074
 
 -- n = N * U / B is Q / U
-cancel-low : (N U Q B g : ℕ) → 0 < B → N * U ≡ Q * B → 65536 * N ≤ 65537 * (g * B) + 65536 * B → 65536 * Q ≤ 65537 * (g * U) + 65536 * U
+cancel-low : (N U Q B g : ℕ) → 0 < B → N * U ≡ Q * B → 68719476736 * N ≤ 68719476737 * (g * B) + 68719476736 * B → 68719476736 * Q ≤ 68719476737 * (g * U) + 68719476736 * U
 cancel-low N U Q B g p e h =
     le-of-mul-le-mul-right
-    (le-trans (le-of-eq (mul-assoc 65536 Q B ∙ ap (λ (z : ℕ). 65536 * z) (sym e) ∙ sym (mul-assoc 65536 N U))) (le-trans (mul-le-mul-right U h) (le-of-eq (swap 65537 65536)))) p
+    (le-trans (le-of-eq (mul-assoc 68719476736 Q B ∙ ap (λ (z : ℕ). 68719476736 * z) (sym e) ∙ sym (mul-assoc 68719476736 N U))) (le-trans (mul-le-mul-right U h) (le-of-eq (swap 68719476737 68719476736)))) p
   where
     swap : (x y : ℕ) → (x * (g * B) + y * B) * U ≡ (x * (g * U) + y * U) * B
     swap x y = simp poly
 
-cancel-high : (N U Q B g : ℕ) → 0 < B → N * U ≡ Q * B → 65535 * (g * B) ≤ 65536 * N + 65536 * B → 65535 * (g * U) ≤ 65536 * Q + 65536 * U
+cancel-high : (N U Q B g : ℕ) → 0 < B → N * U ≡ Q * B → 68719476735 * (g * B) ≤ 68719476736 * N + 68719476736 * B → 68719476735 * (g * U) ≤ 68719476736 * Q + 68719476736 * U
 cancel-high N U Q B g p e h =
-    le-of-mul-le-mul-right (le-trans (le-of-eq (swap 65535)) (le-trans (mul-le-mul-right U h) (le-of-eq (part 65536 ∙ ap (λ (z : ℕ). 65536 * z + 65536 * (U * B)) e ∙ sym (join 65536))))) p
+    le-of-mul-le-mul-right (le-trans (le-of-eq (swap 68719476735)) (le-trans (mul-le-mul-right U h) (le-of-eq (part 68719476736 ∙ ap (λ (z : ℕ). 68719476736 * z + 68719476736 * (U * B)) e ∙ sym (join 68719476736))))) p
   where
     swap : (x : ℕ) → x * (g * U) * B ≡ x * (g * B) * U
     swap x = simp poly
@@ -177,10 +177,10 @@ size-square (fin false m e) f =
 
 -- ---- sums
 pub record Sum (a b g : ℕ) : Type 0 where
-  pub low : 65536 * (a + b) ≤ 65537 * g + 65536
-  pub high : 65535 * g ≤ 65536 * (a + b) + 65536
+  pub low : 68719476736 * (a + b) ≤ 68719476737 * g + 68719476736
+  pub high : 68719476735 * g ≤ 68719476736 * (a + b) + 68719476736
 
-sum-cancel : (n a g B : ℕ) → 0 < B → n ≡ a * B → Rounded n g B → (65536 * a ≤ 65537 * g + 65536) × (65535 * g ≤ 65536 * a + 65536)
+sum-cancel : (n a g B : ℕ) → 0 < B → n ≡ a * B → Rounded n g B → (68719476736 * a ≤ 68719476737 * g + 68719476736) × (68719476735 * g ≤ 68719476736 * a + 68719476736)
 sum-cancel n a g B p e r =
     let l = cancel-low n 1 a B g p (mul-one n ∙ e) (r .low) in
     let h = cancel-high n 1 a B g p (mul-one n ∙ e) (r .high) in
@@ -234,10 +234,10 @@ Sums P Q g = (a : ℕ) × (b : ℕ) × (P a × Q b × Sum a b g)
 sum-huge : (a b : ℕ) → Sum a b (a + b)
 sum-huge a b = record { low = go (a + b); high = back (a + b) }
   where
-    go : (g : ℕ) → 65536 * g ≤ 65537 * g + 65536
+    go : (g : ℕ) → 68719476736 * g ≤ 68719476737 * g + 68719476736
     go g = omega arith
 
-    back : (g : ℕ) → 65535 * g ≤ 65536 * g + 65536
+    back : (g : ℕ) → 68719476735 * g ≤ 68719476736 * g + 68719476736
     back g = omega arith
 
 over-left : (o a b : ℕ) → o ≤ a → o ≤ a + b
@@ -273,21 +273,21 @@ size-add A B P Q E F (sized a u k p) (endless h j) = endless (add-second A B a u
 size-add A B P Q E F (sized a u k p) (huge b h l q) = huge (a + b) (add-second A B a u h) (over-right (2 ^ 2098) a b l) (a, b, (p, q, sum-huge a b))
 size-add A B P Q E F (sized a u k p) (sized b v l q) = told (add binary64 A B) (λ (g : ℕ). Sum a b g) (Sums P Q) (E ⊎ F) (add-sized (E ⊎ F) A B a b u v) (λ g r. (a, b, (p, q, r)))
 
--- ---- a number made larger by a 1024th part
+-- ---- a number made larger by a part in 2 ^ 30
 abbrev pub more : Float
-more = fin false 1025 (negsuc 9)
+more = fin false 1073741825 (negsuc 29)
 
 pub record Scaled (v g : ℕ) : Type 0 where
-  pub low : 65536 * (1025 * v) ≤ 65537 * (g * 1024) + 65536 * 1024
+  pub low : 68719476736 * (1073741825 * v) ≤ 68719476737 * (g * 1073741824) + 68719476736 * 1073741824
 
-scale-units : (x v d U : ℕ) → x * U ≡ v * d → 1025 * x * U * 1 ≡ v * 1025 * d
-scale-units x v d U e = mul-one _ ∙ mul-assoc 1025 x U ∙ ap (λ (z : ℕ). 1025 * z) e ∙ right 1025
+scale-units : (x v d U : ℕ) → x * U ≡ v * d → 1073741825 * x * U * 1 ≡ v * 1073741825 * d
+scale-units x v d U e = mul-one _ ∙ mul-assoc 1073741825 x U ∙ ap (λ (z : ℕ). 1073741825 * z) e ∙ right 1073741825
   where
     right : (c : ℕ) → c * (v * d) ≡ v * c * d
     right c = simp poly
 
-scaled-of : (x v d g U : ℕ) → 0 < d → x * U ≡ v * d → Rounded (1025 * x * U) g (1024 * d) → Scaled v g
-scaled-of x v d g U p e r = record { low = le-of-mul-le-mul-right (go (1025 * x * U) (sym (mul-one _) ∙ scale-units x v d U e) (r .low)) p }
+scaled-of : (x v d g U : ℕ) → 0 < d → x * U ≡ v * d → Rounded (1073741825 * x * U) g (1073741824 * d) → Scaled v g
+scaled-of x v d g U p e r = record { low = le-of-mul-le-mul-right (go (1073741825 * x * U) (sym (mul-one _) ∙ scale-units x v d U e) (r .low)) p }
   where
     left : (c k : ℕ) → c * (k * v) * d ≡ c * (v * k * d)
     left c k = simp poly
@@ -295,8 +295,8 @@ scaled-of x v d g U p e r = record { low = le-of-mul-le-mul-right (go (1025 * x 
     right : (c k j : ℕ) → c * (g * (k * d)) + j * (k * d) ≡ (c * (g * k) + j * k) * d
     right c k j = simp poly
 
-    go : (n : ℕ) → n ≡ v * 1025 * d → 65536 * n ≤ 65537 * (g * (1024 * d)) + 65536 * (1024 * d) → 65536 * (1025 * v) * d ≤ (65537 * (g * 1024) + 65536 * 1024) * d
-    go n e h = le-trans (le-of-eq (left 65536 1025 ∙ ap (λ (z : ℕ). 65536 * z) (sym e))) (le-trans h (le-of-eq (right 65537 1024 65536)))
+    go : (n : ℕ) → n ≡ v * 1073741825 * d → 68719476736 * n ≤ 68719476737 * (g * (1073741824 * d)) + 68719476736 * (1073741824 * d) → 68719476736 * (1073741825 * v) * d ≤ (68719476737 * (g * 1073741824) + 68719476736 * 1073741824) * d
+    go n e h = le-trans (le-of-eq (left 68719476736 1073741825 ∙ ap (λ (z : ℕ). 68719476736 * z) (sym e))) (le-trans h (le-of-eq (right 68719476737 1073741824 68719476736)))
 
 scale-sized : (E : Type 0) (A : Float) (v : ℕ) → HasValue A false v (2 ^ 1074) → Size (mul binary64 more A) (λ (g : ℕ). Scaled v g) E
 unfolding mul
@@ -304,8 +304,8 @@ scale-sized E nan v u = absurd u
 scale-sized E (inf s) v u = absurd u
 scale-sized E (fin true m e) v u = absurd (false≢true (sym (u .0)))
 scale-sized E (fin false m e) v u =
-    told (round binary64 false (1025 * (m * up e)) (1024 * down e)) (λ (g : ℕ). Rounded (1025 * (m * up e) * 2 ^ 1074) g (1024 * down e)) (λ (g : ℕ). Scaled v g) E
-    (size-round E (1025 * (m * up e)) (1024 * down e) (mul-pos (omega arith) (down-pos e))) (λ g r. scaled-of (m * up e) v (down e) g (2 ^ 1074) (down-pos e) (u .1) r)
+    told (round binary64 false (1073741825 * (m * up e)) (1073741824 * down e)) (λ (g : ℕ). Rounded (1073741825 * (m * up e) * 2 ^ 1074) g (1073741824 * down e)) (λ (g : ℕ). Scaled v g) E
+    (size-round E (1073741825 * (m * up e)) (1073741824 * down e) (mul-pos (omega arith) (down-pos e))) (λ g r. scaled-of (m * up e) v (down e) g (2 ^ 1074) (down-pos e) (u .1) r)
 
 abbrev pub Scales : (ℕ → Type 0) → ℕ → Type 0
 Scales P g = (v : ℕ) × (P v × Scaled v g)

@@ -38,9 +38,9 @@ least-gap ps n qs m = rounds (clearance-step ps n qs) m infinity
 -- ---- the walk of the code, which takes roots only where two squared lengths are close
 -- A lead is the nearest foot so far, the vector from p to it, and that vector's squared length as computed.
 
--- 1 + 2 ^ -10
+-- 1 + 2 ^ -30
 abbrev pub more : Float
-more = ofBits binary64 0x3ff0040000000000
+more = ofBits binary64 0x3ff0000000400000
 
 -- 2 ^ -1000
 abbrev pub tiny : Float

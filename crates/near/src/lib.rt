@@ -20,7 +20,7 @@ pub struct Lead {
 pub fn clearly(v: f64, w: f64) -> bool
     ensures { λ r. ⌜ r ≡ Near.clearly v w ⌝ }
 {
-    (1.0009765625 * v < w) & (9.332636185032189e-302 < w)
+    (1.0000000009313226 * v < w) & (9.332636185032189e-302 < w)
 }
 
 pub fn lead_to(p: PlanarPoint, q: PlanarPoint) -> Lead
