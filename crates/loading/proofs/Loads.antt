@@ -41,12 +41,8 @@ both-second true b h = h
 both-second false b h = absurd (false≢true h)
 
 -- the numbers of the first ring, and of one more
-pub outer-fits : (s : Loaded) (n : ℕ) → s ≡ loaded-nothing → n < 2 ^ 64 → (s .used + n < 2 ^ 64) × (s .rings + 1 < 2 ^ 64)
-unfolding loaded-nothing
-outer-fits s n e l =
-    let u : s .used ≡ 0 = ap (λ (x : Loaded). x .used) e in
-    let v : s .rings ≡ 0 = ap (λ (x : Loaded). x .rings) e in
-    (omega arith, omega arith)
+pub from-nothing : (n : ℕ) → n < 2 ^ 64 → 0 + n < 2 ^ 64
+from-nothing n l = omega arith
 
 pub next-fits : (s : Loaded) (n : ℕ) → fits n s ≡ true → (s .used + n < 2 ^ 64) × (s .rings + 1 < 2 ^ 64)
 unfolding fits
@@ -70,13 +66,10 @@ abbrev pub loaded-at : List Edge → ℕ → ℕ → Refusal → Loaded
 loaded-at f used rings r = record { edges = f; used = used; rings = rings; refusal = r }
 
 -- the line of edge k, as the code comes by it
-pub line-is : (ps : List Float) (n : ℕ) (back : Bool) (origin : PlanarPoint) (k f : ℕ) (a b : PlanarPoint) (x y : Through) →
-    a ≡ load-vertex ps n back origin k → f ≡ following n k → b ≡ load-vertex ps n back origin f → x ≡ through a b → x ≡ y →
+pub line-is : (ps : List Float) (n : ℕ) (back : Bool) (origin : PlanarPoint) (k : ℕ) (a : PlanarPoint) (x y : Through) →
+    a ≡ load-vertex ps n back origin k → x ≡ through a (load-vertex ps n back origin (following n k)) → x ≡ y →
     through (load-vertex ps n back origin k) (load-vertex ps n back origin (following n k)) ≡ y
-line-is ps n back origin k f a b x y ea ef eb ex ey =
-    sym
-    (sym ey ∙ ex ∙ ap (λ (z : PlanarPoint). through z b) ea ∙
-    ap (through (load-vertex ps n back origin k)) (eb ∙ ap (load-vertex ps n back origin) ef))
+line-is ps n back origin k a x y ea ex ey = ap (λ (z : PlanarPoint). through z (load-vertex ps n back origin (following n k))) (sym ea) ∙ sym ex ∙ ey
 
 module _ (ps : List Float) (n : ℕ) (back : Bool) (origin : PlanarPoint) (d : Float) (first rings : ℕ) (f₀ : List Edge) (r₀ : Refusal) where
   -- the state after k turns: nothing is refused before the last
@@ -144,6 +137,9 @@ module _ (ps : List Float) (n : ℕ) (back : Bool) (origin : PlanarPoint) (d : F
 -- the count of the edges, and the edges that are asked for
 pub count-fits : (first n k : ℕ) → first + n < 2 ^ 64 → k < n → Fits w64 (k + 1)
 count-fits first n k h l = let le : k + 1 ≤ first + n = omega arith in fits-of-lt (lt-of-le-of-lt le h)
+
+pub slot-count : (used k : ℕ) → used ≡ 0 + k → used < 128 → Fits w64 (k + 1)
+slot-count used k e l = let le : k + 1 ≤ 128 = omega arith in fits-of-lt (lt-of-le-of-lt le (omega arith))
 
 pub slots-fit : (first used n k : ℕ) → first + n < 2 ^ 64 → k < n → used ≡ first + k → Fits w64 (used + (n - k))
 slots-fit first used n k h l e = let le : used + (n - k) ≤ first + n = omega arith in fits-of-lt (lt-of-le-of-lt le h)

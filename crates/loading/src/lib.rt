@@ -1,7 +1,9 @@
 // The rings of a shape are loaded into the front, edge by edge.
 ghost use mathlib.Core.Path.{_≡_};
 ghost use Prim.Native.Nat.{_+_, _^_, _<_};
+ghost use Rattle.front.specs.Lines;
 ghost use Rattle.front.specs.Loading;
+ghost use Rattle.ring.specs.Ring;
 ghost use Rattle.loading.specs.Next;
 use error::Refusal;
 use front::Edge;
@@ -10,30 +12,27 @@ use front::Loaded;
 use front::Through;
 use plane::PlanarPoint;
 
-// The front before anything is loaded.
-pub fn no_front() -> [Edge; 128]
-    ensures { λ r. ⌜ r ≡ Loading.no-front ⌝ }
-{
-    [Edge::UNUSED; 128]
-}
-
-pub fn loaded_nothing() -> Loaded
-    ensures { λ r. ⌜ r ≡ Loading.loaded-nothing ⌝ }
-{
-    Loaded {
-        edges: no_front(),
-        used: 0,
-        rings: 0,
-        refusal: Refusal::Granted,
-    }
-}
-
 // Vertex k of a ring that is walked forwards or backwards, relative to the origin.
 pub fn load_vertex(ps: &[f64], n: usize, back: bool, origin: PlanarPoint, k: usize) -> PlanarPoint
     ensures { λ r. ⌜ r ≡ Loading.load-vertex (now (ps .entry)) n back origin k ⌝ }
 {
     let at = ring::choose(back, ring::less(ring::less(n, 1), k), k);
     plane::sub(ring::vertex_at(ps, at), origin)
+}
+
+// The line of edge k, from its start vertex to the next.
+pub fn load_line(
+    ps: &[f64],
+    n: usize,
+    back: bool,
+    origin: PlanarPoint,
+    k: usize,
+    a: PlanarPoint,
+) -> Through
+    ensures { λ r. ⌜ r ≡ Lines.through a (Loading.load-vertex (now (ps .entry)) n back origin (Ring.following n k)) ⌝ }
+{
+    let b = load_vertex(ps, n, back, origin, ring::following(n, k));
+    lines::through(a, b)
 }
 
 // Edge k of a ring of n, whose first edge stands in the slot `first`.
@@ -75,8 +74,7 @@ pub(crate) fn load_ring(
     let mut k = ring::choose(refusal.granted(), 0, n);
     while k < n {
         let a = load_vertex(ps, n, back, origin, k);
-        let b = load_vertex(ps, n, back, origin, ring::following(n, k));
-        let line = lines::through(a, b);
+        let line = load_line(ps, n, back, origin, k, a);
         match line {
             Through::NoLine => {
                 refusal = Refusal::Collapses(d);
@@ -102,11 +100,40 @@ pub(crate) fn load_ring(
     }
 }
 
-// The front of a shape's outer ring.
+// The front of a shape's outer ring, on an array of its own. The first refusal ends the loop.
 pub fn load_outer(ps: &[f64], n: usize, back: bool, origin: PlanarPoint, d: f64) -> Loaded
     ensures { λ r. ⌜ r ≡ Loading.load-ring (now (ps .entry)) n back origin d Loading.loaded-nothing ⌝ }
 {
-    load_ring(ps, n, back, origin, d, loaded_nothing())
+    let mut edges = [Edge::UNUSED; 128];
+    let mut used = 0;
+    let mut refusal = Refusal::Granted;
+    let mut k = 0;
+    while k < n {
+        let a = load_vertex(ps, n, back, origin, k);
+        let line = load_line(ps, n, back, origin, k, a);
+        match line {
+            Through::NoLine => {
+                refusal = Refusal::Collapses(d);
+                k = n;
+            }
+            Through::Along(l) => {
+                if used < 128 {
+                    edges[used] = loaded_edge(l, 0, n, k, a);
+                    used += 1;
+                    k += 1;
+                } else {
+                    refusal = Refusal::Slots(used + (n - k));
+                    k = n;
+                }
+            }
+        }
+    }
+    Loaded {
+        edges: edges,
+        used: used,
+        rings: 1,
+        refusal: refusal,
+    }
 }
 
 // One ring more. Numbers that no front has are refused.

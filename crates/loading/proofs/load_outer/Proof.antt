@@ -1,19 +1,102 @@
 -- `loading::load_outer` meets its contract. Assumes nothing.
-use mathlib.Core.Path.{ap, _∙_}
-use Rattle.front.specs.Loading.{load-ring}
-use Rattle.loading.proofs.Loads.{outer-fits}
 use borrow.Author.Needs.{needs}
+use Prim.Native.Nat.{_-_}
+use mathlib.Core.Bool.{true}
+use mathlib.Core.Path.{refl}
+use Rattle.error.specs.declared.Refusal.the-variants.{Granted}
+use Rattle.error.specs.Refusals.{granted, number, values}
+use Rattle.front.specs.Loading.{no-front, loaded-nothing}
+use Rattle.loading.proofs.Loads.{So, begins, line-is, load-goes, stops-empty, stops-full, from-nothing, slot-count, slots-fit, ring-loaded}
 use Rattle.loading.proofs.load_outer.Statement.{statement}
 use Rattle.loading.proofs.load_outer.Tie as tie
 
-loaded-nothing-requires : tie.Need-loaded-nothing-requires
-loaded-nothing-requires c κs = search needs
+abbrev Inv-loop : tie.InvT-loop
+Inv-loop ps n back origin d edges₀ used₀ refusal₀ k₀ edges used refusal k = So ps n back origin d 0 1 no-front Granted edges used refusal k
 
-load-ring-requires : tie.Need-load-ring-requires
-load-ring-requires c κs = outer-fits _ _ (c .loaded-nothing .ensures) (search needs)
+abbrev μ-loop : tie.MeasureT-loop
+μ-loop ps n back origin d edges₀ used₀ refusal₀ k₀ edges used refusal k = n - k
 
-returns : tie.Need-returns
-returns c = c .load-ring .ensures ∙ ap (load-ring _ _ _ _ _) (c .before .loaded-nothing .ensures)
+loop-holds : tie.Need-loop-holds Inv-loop μ-loop
+unfolding no-front granted number values
+loop-holds c = begins _ _ _ _ _ 0 1 no-front Granted true 0 refl refl
+
+load-vertex-requires : tie.Need-load-vertex-requires Inv-loop μ-loop
+load-vertex-requires c κs = search needs
+
+load-line-requires : tie.Need-load-line-requires Inv-loop μ-loop
+load-line-requires c κs = search needs
+
+enum-told : tie.Need-enum-told Inv-loop μ-loop
+enum-told c = search needs
+
+loop-less : tie.Need-loop-less Inv-loop μ-loop
+loop-less c = search needs
+
+loop-again : tie.Need-loop-again Inv-loop μ-loop
+loop-again c = stops-empty _ _ _ _ _ _ _ _ _ _ _ _ _ (c .before .before .before .before .before .loop .inv) (c .before .before .before .before .loop-test .taken) (line-is _ _ _ _ _ _ _ _ (c .before .before .before .load-vertex .ensures) (c .before .before .load-line .ensures) (c .enum-told .given .1))
+
+enum-known-line : tie.Need-enum-known-line Inv-loop μ-loop
+enum-known-line c = search needs
+
+loaded-edge-requires : tie.Need-loaded-edge-requires Inv-loop μ-loop
+loaded-edge-requires c κs = search needs
+
+mul-edges : tie.Need-mul-edges Inv-loop μ-loop
+mul-edges c = search needs
+
+array-set-from-edges : tie.Need-array-set-from-edges Inv-loop μ-loop
+array-set-from-edges c = search needs
+
+add-used : tie.Need-add-used Inv-loop μ-loop
+add-used c = search needs
+
+add-k : tie.Need-add-k Inv-loop μ-loop
+add-k c = slot-count _ _ (c .before .before .before .before .before .before .before .before .loop .inv .2 (c .before .before .before .before .before .before .before .loop-test .taken) .1) (search needs)
+
+loop-less-2 : tie.Need-loop-less-2 Inv-loop μ-loop
+loop-less-2 c = search needs
+
+loop-again-2 : tie.Need-loop-again-2 Inv-loop μ-loop
+loop-again-2 c = load-goes _ _ _ _ _ _ _ _ _ _ _ _ _ (c .before .before .before .before .before .before .before .before .loop .inv) (c .before .before .before .before .before .before .before .loop-test .taken) _ _ _ (line-is _ _ _ _ _ _ _ _ (c .before .before .before .before .before .before .load-vertex .ensures) (c .before .before .before .before .before .load-line .ensures) (c .before .before .before .line .given .1)) (search needs) (c .before .before .before .before .before .before .load-vertex .ensures) (c .loaded-edge .ensures)
+
+sub-t22 : tie.Need-sub-t22 Inv-loop μ-loop
+sub-t22 c = search needs
+
+add-t23 : tie.Need-add-t23 Inv-loop μ-loop
+add-t23 c = slots-fit 0 _ _ _ (from-nothing _ (search needs)) (c .before .before .before .before .before .before .loop-test .taken) (c .before .before .before .before .before .before .before .loop .inv .2 (c .before .before .before .before .before .before .loop-test .taken) .1)
+
+loop-less-3 : tie.Need-loop-less-3 Inv-loop μ-loop
+loop-less-3 c = search needs
+
+loop-again-3 : tie.Need-loop-again-3 Inv-loop μ-loop
+loop-again-3 c = stops-full _ _ _ _ _ _ _ _ _ _ _ _ _ (c .before .before .before .before .before .before .before .loop .inv) (c .before .before .before .before .before .before .loop-test .taken) _ (search needs) (line-is _ _ _ _ _ _ _ _ (c .before .before .before .before .before .load-vertex .ensures) (c .before .before .before .before .load-line .ensures) (c .before .before .line .given .1))
+
+returns : tie.Need-returns Inv-loop μ-loop
+unfolding loaded-nothing
+returns c = ring-loaded _ _ _ _ _ loaded-nothing _ _ _ _ (c .before .loop .inv .0) (c .loop-test .left) (c .before .loop .inv .1)
 
 pub load-outer-spec : {M : Type 1} → statement M
-load-outer-spec = tie.close (tie.spec loaded-nothing-requires load-ring-requires returns)
+load-outer-spec =
+    tie.close
+    (tie.spec
+    Inv-loop
+    μ-loop
+    loop-holds
+    load-vertex-requires
+    load-line-requires
+    enum-told
+    loop-less
+    loop-again
+    enum-known-line
+    loaded-edge-requires
+    mul-edges
+    array-set-from-edges
+    add-used
+    add-k
+    loop-less-2
+    loop-again-2
+    sub-t22
+    add-t23
+    loop-less-3
+    loop-again-3
+    returns)

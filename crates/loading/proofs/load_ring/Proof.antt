@@ -26,14 +26,8 @@ loop-holds c = begins _ _ _ _ _ _ _ _ _ _ _ (c .before .granted .ensures) (c .ch
 load-vertex-requires : tie.Need-load-vertex-requires Inv-loop μ-loop
 load-vertex-requires c κs = search needs
 
-following-requires : tie.Need-following-requires Inv-loop μ-loop
-following-requires c κs = search needs
-
-load-vertex-requires-2 : tie.Need-load-vertex-requires-2 Inv-loop μ-loop
-load-vertex-requires-2 c κs = search needs
-
-through-requires : tie.Need-through-requires Inv-loop μ-loop
-through-requires c κs = search needs
+load-line-requires : tie.Need-load-line-requires Inv-loop μ-loop
+load-line-requires c κs = search needs
 
 enum-told : tie.Need-enum-told Inv-loop μ-loop
 enum-told c = search needs
@@ -42,7 +36,7 @@ loop-less : tie.Need-loop-less Inv-loop μ-loop
 loop-less c = search needs
 
 loop-again : tie.Need-loop-again Inv-loop μ-loop
-loop-again c = stops-empty _ _ _ _ _ _ _ _ _ _ _ _ _ (c .before .before .before .before .before .before .before .loop .inv) (c .before .before .before .before .before .before .loop-test .taken) (line-is _ _ _ _ _ _ _ _ _ _ (c .before .before .before .before .before .load-vertex .ensures) (c .before .before .before .before .following .ensures) (c .before .before .before .load-vertex2 .ensures) (c .before .before .through .ensures) (c .enum-told .given .1))
+loop-again c = stops-empty _ _ _ _ _ _ _ _ _ _ _ _ _ (c .before .before .before .before .before .loop .inv) (c .before .before .before .before .loop-test .taken) (line-is _ _ _ _ _ _ _ _ (c .before .before .before .load-vertex .ensures) (c .before .before .load-line .ensures) (c .enum-told .given .1))
 
 enum-known-line : tie.Need-enum-known-line Inv-loop μ-loop
 enum-known-line c = search needs
@@ -60,25 +54,25 @@ add-used : tie.Need-add-used Inv-loop μ-loop
 add-used c = search needs
 
 add-k : tie.Need-add-k Inv-loop μ-loop
-add-k c = count-fits _ _ _ (c .before .before .before .before .before .before .before .before .before .before .before .before .before .before .before .before .pre .0) (c .before .before .before .before .before .before .before .before .before .loop-test .taken)
+add-k c = count-fits _ _ _ (c .before .before .before .before .before .before .before .before .before .before .before .before .before .before .pre .0) (c .before .before .before .before .before .before .before .loop-test .taken)
 
 loop-less-2 : tie.Need-loop-less-2 Inv-loop μ-loop
 loop-less-2 c = search needs
 
 loop-again-2 : tie.Need-loop-again-2 Inv-loop μ-loop
-loop-again-2 c = load-goes _ _ _ _ _ _ _ _ _ _ _ _ _ (c .before .before .before .before .before .before .before .before .before .before .loop .inv) (c .before .before .before .before .before .before .before .before .before .loop-test .taken) _ _ _ (line-is _ _ _ _ _ _ _ _ _ _ (c .before .before .before .before .before .before .before .before .load-vertex .ensures) (c .before .before .before .before .before .before .before .following .ensures) (c .before .before .before .before .before .before .load-vertex2 .ensures) (c .before .before .before .before .before .through .ensures) (c .before .before .before .line .given .1)) (search needs) (c .before .before .before .before .before .before .before .before .load-vertex .ensures) (c .loaded-edge .ensures)
+loop-again-2 c = load-goes _ _ _ _ _ _ _ _ _ _ _ _ _ (c .before .before .before .before .before .before .before .before .loop .inv) (c .before .before .before .before .before .before .before .loop-test .taken) _ _ _ (line-is _ _ _ _ _ _ _ _ (c .before .before .before .before .before .before .load-vertex .ensures) (c .before .before .before .before .before .load-line .ensures) (c .before .before .before .line .given .1)) (search needs) (c .before .before .before .before .before .before .load-vertex .ensures) (c .loaded-edge .ensures)
 
-sub-t25 : tie.Need-sub-t25 Inv-loop μ-loop
-sub-t25 c = search needs
+sub-t23 : tie.Need-sub-t23 Inv-loop μ-loop
+sub-t23 c = search needs
 
-add-t26 : tie.Need-add-t26 Inv-loop μ-loop
-add-t26 c = slots-fit _ _ _ _ (c .before .before .before .before .before .before .before .before .before .before .before .before .before .before .before .pre .0) (c .before .before .before .before .before .before .before .before .loop-test .taken) (c .before .before .before .before .before .before .before .before .before .loop .inv .2 (c .before .before .before .before .before .before .before .before .loop-test .taken) .1)
+add-t24 : tie.Need-add-t24 Inv-loop μ-loop
+add-t24 c = slots-fit _ _ _ _ (c .before .before .before .before .before .before .before .before .before .before .before .before .before .pre .0) (c .before .before .before .before .before .before .loop-test .taken) (c .before .before .before .before .before .before .before .loop .inv .2 (c .before .before .before .before .before .before .loop-test .taken) .1)
 
 loop-less-3 : tie.Need-loop-less-3 Inv-loop μ-loop
 loop-less-3 c = search needs
 
 loop-again-3 : tie.Need-loop-again-3 Inv-loop μ-loop
-loop-again-3 c = stops-full _ _ _ _ _ _ _ _ _ _ _ _ _ (c .before .before .before .before .before .before .before .before .before .loop .inv) (c .before .before .before .before .before .before .before .before .loop-test .taken) _ (search needs) (line-is _ _ _ _ _ _ _ _ _ _ (c .before .before .before .before .before .before .before .load-vertex .ensures) (c .before .before .before .before .before .before .following .ensures) (c .before .before .before .before .before .load-vertex2 .ensures) (c .before .before .before .before .through .ensures) (c .before .before .line .given .1))
+loop-again-3 c = stops-full _ _ _ _ _ _ _ _ _ _ _ _ _ (c .before .before .before .before .before .before .before .loop .inv) (c .before .before .before .before .before .before .loop-test .taken) _ (search needs) (line-is _ _ _ _ _ _ _ _ (c .before .before .before .before .before .load-vertex .ensures) (c .before .before .before .before .load-line .ensures) (c .before .before .line .given .1))
 
 returns : tie.Need-returns Inv-loop μ-loop
 returns c = ring-loaded _ _ _ _ _ (c .before .before .before .before .before .before .before .args .s) _ _ _ _ (c .before .loop .inv .0) (c .loop-test .left) (c .before .loop .inv .1)
@@ -94,9 +88,7 @@ load-ring-spec =
     choose-requires
     loop-holds
     load-vertex-requires
-    following-requires
-    load-vertex-requires-2
-    through-requires
+    load-line-requires
     enum-told
     loop-less
     loop-again
@@ -108,8 +100,8 @@ load-ring-spec =
     add-k
     loop-less-2
     loop-again-2
-    sub-t25
-    add-t26
+    sub-t23
+    add-t24
     loop-less-3
     loop-again-3
     returns)
