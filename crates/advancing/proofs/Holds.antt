@@ -30,11 +30,11 @@ use Rattle.front.specs.NextEvent.{next-event}
 use Rattle.front.specs.Tidying.{find-tidy, drop-straight, drop-both, spike-to, spike-from, drop-spike, drop-ring, tidy-by, tidy-step, tidy}
 use Rattle.front.specs.Sweeps.{split, sweep-step, finished, offset-rings}
 use Rattle.splitting.specs.Begun.{begun}
-use Rattle.sweeping.specs.declared.Plan.{Plan}
-use Rattle.sweeping.specs.declared.Plan.the-variants.{Refuse, End, TakeCollapse, TakeSplit}
-use Rattle.sweeping.specs.Turning.{plan-of}
-use Rattle.sweeping.proofs.Turns.{Parted}
-use Rattle.sweeping.proofs.Loop.{swept, loaded, not-loaded, After, last, unfinished, refuses, reaches, collapse-lost, collapses, parts, split-lost, split-on}
+use Rattle.advancing.specs.declared.Plan.{Plan}
+use Rattle.advancing.specs.declared.Plan.the-variants.{Refuse, End, TakeCollapse, TakeSplit}
+use Rattle.advancing.specs.Turning.{plan-of}
+use Rattle.advancing.proofs.Turns.{Parted}
+use Rattle.advancing.proofs.Loop.{swept, loaded, not-loaded, After, last, unfinished, refuses, reaches, collapse-lost, collapses, parts, split-lost, split-on}
 use Rattle.tidying.specs.Findings.{settled}
 use Rattle.tidying.proofs.Steps.{unchanged, tidy-none, tidy-ends, tidy-goes, tidy-all}
 use Rattle.advancing.specs.declared.Act.{Act}

@@ -1,1 +1,3 @@
+pub mod Turns
+pub mod Loop
 pub mod Holds

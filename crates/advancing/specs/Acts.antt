@@ -6,8 +6,8 @@ use Rattle.front.specs.declared.Sweep.{Sweep}
 use Rattle.front.specs.declared.Tidy.{Tidy}
 use Rattle.front.specs.declared.Tidy.the-variants.{Settled, SmallRing, Straight, Spike, Empty}
 use Rattle.front.specs.Loading.{no-front}
-use Rattle.sweeping.specs.declared.Plan.{Plan}
-use Rattle.sweeping.specs.declared.Plan.the-variants.{Refuse, End, TakeCollapse, TakeSplit}
+use Rattle.advancing.specs.declared.Plan.{Plan}
+use Rattle.advancing.specs.declared.Plan.the-variants.{Refuse, End, TakeCollapse, TakeSplit}
 use Rattle.advancing.specs.declared.Act.{Act}
 use Rattle.advancing.specs.declared.Act.the-variants.{Stop, Finish, Shrink, Cut, Other}
 

@@ -2,20 +2,29 @@
 ghost use mathlib.Core.Path.{_≡_};
 ghost use mathlib.Core.Bool.{cond};
 ghost use lib.Dec.{ltb};
+ghost use lib.Ieee.{le};
 ghost use lib.ListN.{length};
 ghost use Rattle.front.specs.NextEvent;
 ghost use Rattle.front.specs.Sweeps;
-ghost use Rattle.sweeping.specs.Turning;
-ghost use Rattle.sweeping.specs.declared.Plan.the-variants.{End};
+ghost use Rattle.advancing.specs.Turning;
+ghost use Rattle.advancing.specs.declared.Plan.the-variants.{End};
 ghost use Rattle.front.specs.declared.Tidy.the-variants.{Settled};
 ghost use Rattle.advancing.specs.Acts;
 use error::Refusal;
 use front::Edge;
+use front::Event;
 use front::Loaded;
 use front::Sweep;
 use front::Tidy;
 use front::Vertex;
-use sweeping::Plan;
+
+// What is planned for a tidied front: it is refused, or has come to the distance, or an event is taken at an offset.
+pub enum Plan {
+    Refuse,
+    End,
+    TakeCollapse(usize, f64),
+    TakeSplit(usize, usize, f64),
+}
 
 // What is done with the front: it is refused, or has come to the distance; an edge collapses, by an event or by tidying, itself or its next; the front splits; tidying takes
 // something else out.
@@ -32,6 +41,30 @@ pub fn slots(edges: [Edge; 128]) -> usize
     ensures { λ r. ⌜ (r ≡ 128) × (length edges ≡ 128) ⌝ }
 {
     128
+}
+
+// An event that falls on the distance, or beyond it, ends the walk before it.
+pub fn in_time(d: f64, t: f64, p: Plan) -> Plan
+    ensures { λ r. ⌜ r ≡ cond (le d t) End p ⌝ }
+{
+    if d <= t { Plan::End } else { p }
+}
+
+pub fn plan_of(d: f64, travelled: f64, e: Event) -> Plan
+    ensures { λ r. ⌜ r ≡ Turning.plan-of d travelled e ⌝ }
+{
+    match e {
+        Event::Stalled => Plan::Refuse,
+        Event::Never => Plan::End,
+        Event::Collapse(k, step) => {
+            let t = travelled + step;
+            in_time(d, t, Plan::TakeCollapse(k, t))
+        }
+        Event::Split(v, w, step) => {
+            let t = travelled + step;
+            in_time(d, t, Plan::TakeSplit(v, w, t))
+        }
+    }
 }
 
 // What a plan does.
@@ -59,7 +92,7 @@ pub fn plan_if(tidied: bool, d: f64, travelled: f64, edges: [Edge; 128]) -> Plan
 {
     if tidied {
         let event = events::next_event(edges, travelled);
-        sweeping::plan_of(d, travelled, event)
+        plan_of(d, travelled, event)
     } else {
         Plan::End
     }

@@ -41,10 +41,6 @@ module _ (f : List Edge) (t : Float) (found : Tidy) where
     unfolding tidy-by
     by-empty h i = rw (h, i) refl
 
-pub once-is : (f : List Edge) (t : Float) (found : Tidy) (r : Front) → found ≡ find-tidy f t → r ≡ tidy-by f t found → r ≡ tidy-once f t
-unfolding tidy-once
-once-is f t found r h i = rw (i, h) refl
-
 -- ---- the steps
 
 abbrev front : List Edge → Bool → Bool → Front

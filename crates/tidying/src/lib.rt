@@ -272,39 +272,3 @@ pub fn tidy_by(edges: [Edge; 128], t: f64, found: Tidy) -> Front
         Tidy::Empty(slot) => edges::collapse(edges, slot, t),
     }
 }
-
-pub fn tidy_once(edges: [Edge; 128], t: f64) -> Front
-    ensures { λ r. ⌜ r ≡ Tidying.tidy-once edges t ⌝ }
-{
-    tidy_by(edges, t, find_tidy(edges, t))
-}
-
-// 129 steps at most, until one changes nothing or meets a vertex without a velocity.
-pub fn tidy(edges: [Edge; 128], t: f64) -> Front
-    ensures { λ r. ⌜ r ≡ Tidying.tidy edges t ⌝ }
-{
-    let mut f = edges;
-    let mut k = 0usize;
-    while k < 129 {
-        k += 1;
-        let found = find_tidy(f, t);
-        if settled(found) {
-            return Front {
-                edges: f,
-                stalled: false,
-                changed: false,
-            };
-        }
-        let s = tidy_by(f, t, found);
-        if !(s.changed & !s.stalled) {
-            return s;
-        }
-        let g = s.edges;
-        f = g;
-    }
-    Front {
-        edges: f,
-        stalled: false,
-        changed: true,
-    }
-}

@@ -10,7 +10,7 @@ use Rattle.front.specs.Edges.{altered, stalled}
 use Rattle.front.specs.Loading.{no-front}
 use Rattle.splitting.specs.Begun.{begun}
 use Rattle.edges.proofs.Actions.{slot-read, slot-start, removed, collapse-none, collapse-some}
-use Rattle.sweeping.proofs.Loop.{loaded, not-loaded, unfinished}
+use Rattle.advancing.proofs.Loop.{loaded, not-loaded, unfinished}
 use Rattle.advancing.specs.Acts.{cleared}
 use Rattle.advancing.proofs.Holds.{Walked, clears, turn-holds, held-stop, held-finish, held-shrink, held-cut, held-other, counted, counts, turns, shrink-falls, cut-falls, tidying-falls}
 use Rattle.advancing.proofs.advance.Statement.{statement}

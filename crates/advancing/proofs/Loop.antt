@@ -23,10 +23,10 @@ use Rattle.front.specs.NextEvent.{next-event}
 use Rattle.front.specs.Tidying.{tidy}
 use Rattle.front.specs.Sweeps.{sweep-refused, sweep-ended, swept-collapse, split, sweep-tidied, sweep-step, sweep-from, finished, offset-rings}
 use Rattle.splitting.specs.Begun.{begun}
-use Rattle.sweeping.specs.declared.Plan.{Plan}
-use Rattle.sweeping.specs.declared.Plan.the-variants.{Refuse, End, TakeCollapse, TakeSplit}
-use Rattle.sweeping.specs.Turning.{plan-of}
-use Rattle.sweeping.proofs.Turns.{done, tidied-is, Parted, splits}
+use Rattle.advancing.specs.declared.Plan.{Plan}
+use Rattle.advancing.specs.declared.Plan.the-variants.{Refuse, End, TakeCollapse, TakeSplit}
+use Rattle.advancing.specs.Turning.{plan-of}
+use Rattle.advancing.proofs.Turns.{done, tidied-is, Parted, splits}
 
 abbrev pub swept : List Edge → Float → ℕ → ℕ → ℕ → Bool → Refusal → Sweep
 swept f t c v j ended r = record { edges = f; travelled = t; collapses = c; divides = v; joins = j; ended = ended; refusal = r }

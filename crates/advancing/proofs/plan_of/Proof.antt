@@ -1,9 +1,9 @@
--- `sweeping::plan_of` meets its contract. Assumes nothing.
+-- `advancing::plan_of` meets its contract. Assumes nothing.
 use borrow.Author.Needs.{needs}
 use mathlib.Core.Path.{refl, _∙_}
-use Rattle.sweeping.specs.Turning.{plan-of}
-use Rattle.sweeping.proofs.plan_of.Statement.{statement}
-use Rattle.sweeping.proofs.plan_of.Tie as tie
+use Rattle.advancing.specs.Turning.{plan-of}
+use Rattle.advancing.proofs.plan_of.Statement.{statement}
+use Rattle.advancing.proofs.plan_of.Tie as tie
 
 enum-told : tie.Need-enum-told
 enum-told c = search needs

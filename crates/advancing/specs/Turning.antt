@@ -4,8 +4,8 @@ use lib.Ieee.{Float, le}
 use Rattle.math.specs.Number.{add}
 use Rattle.front.specs.declared.Event.{Event}
 use Rattle.front.specs.declared.Event.the-variants.{Stalled, Never, Collapse, Split}
-use Rattle.sweeping.specs.declared.Plan.{Plan}
-use Rattle.sweeping.specs.declared.Plan.the-variants.{Refuse, End, TakeCollapse, TakeSplit}
+use Rattle.advancing.specs.declared.Plan.{Plan}
+use Rattle.advancing.specs.declared.Plan.the-variants.{Refuse, End, TakeCollapse, TakeSplit}
 
 -- an event that falls on the distance, or beyond it, ends the walk before it
 unfoldable pub plan-of : Float → Float → Event → Plan

@@ -24,9 +24,9 @@ use Rattle.front.specs.NextEvent.{next-event}
 use Rattle.front.specs.Splitting.{free, one-ring}
 use Rattle.front.specs.Sweeps.{sweep-refused, sweep-ended, swept-collapse, swept-divide, swept-join, swept-split, split-into, split-of, split-at, split, sweep-event, sweep-tidied}
 use Rattle.splitting.specs.Begun.{begun}
-use Rattle.sweeping.specs.declared.Plan.{Plan}
-use Rattle.sweeping.specs.declared.Plan.the-variants.{Refuse, End, TakeCollapse, TakeSplit}
-use Rattle.sweeping.specs.Turning.{plan-of}
+use Rattle.advancing.specs.declared.Plan.{Plan}
+use Rattle.advancing.specs.declared.Plan.the-variants.{Refuse, End, TakeCollapse, TakeSplit}
+use Rattle.advancing.specs.Turning.{plan-of}
 
 -- ---- the plan of a tidied front, done
 

@@ -1,6 +1,6 @@
--- `sweeping::in_time` meets its contract. Assumes nothing.
-use Rattle.sweeping.proofs.in_time.Statement.{statement}
-use Rattle.sweeping.proofs.in_time.Tie as tie
+-- `advancing::in_time` meets its contract. Assumes nothing.
+use Rattle.advancing.proofs.in_time.Statement.{statement}
+use Rattle.advancing.proofs.in_time.Tie as tie
 
 returns : tie.Need-returns
 returns c = simp (c .if1 .taken)
