@@ -26,6 +26,8 @@ use Rattle.front.specs.declared.Vertex.{Vertex}
 use Rattle.front.specs.declared.Vertex.the-variants.{NoVertex, Moving}
 use Rattle.front.specs.Edges.{edge, altered, stalled, anchor-at, anchor, then-remove, collapse, vertex}
 use Rattle.front.specs.Loading.{no-front}
+use Rattle.front.specs.declared.Event.{Event}
+use Rattle.front.specs.declared.Event.the-variants.{Never}
 use Rattle.front.specs.NextEvent.{next-event}
 use Rattle.front.specs.Tidying.{find-tidy, drop-straight, drop-both, spike-to, spike-from, drop-spike, drop-ring, tidy-by, tidy-step, tidy}
 use Rattle.front.specs.Sweeps.{split, sweep-step, finished, offset-rings}
@@ -250,12 +252,18 @@ module _ (d : Float) (f₀ : List Edge) (t₀ : Float) where
       act-holds (Spike i) h p q = tidies (Spike i) (taken (ltb m 129) (Spike i) refl h refl .0) refl (taken (ltb m 129) (Spike i) refl h refl .1)
       act-holds (Empty i) h p q = shrinks-away (Empty i) (taken (ltb m 129) (Empty i) refl h refl .0) refl (taken (ltb m 129) (Empty i) refl h refl .1)
 
+      -- no event is no plan
+      planned : (b : Bool) (e : Event) → e ≡ cond b (next-event f t) Never → plan-of d t e ≡ cond b (plan-of d t (next-event f t)) End
+      unfolding plan-of
+      planned true e q = ap (plan-of d t) q
+      planned false e q = ap (plan-of d t) q
+
       pub turn-holds :
-          (x y : Tidy) (b : Bool) (p : Plan) (a : Act) → y ≡ find-tidy f t → x ≡ cond (ltb m 129) y Settled → b ≡ settled x →
-          p ≡ cond b (plan-of d t (next-event f t)) End → a ≡ act-of t x p → Holds a
-      turn-holds x y b p a i h e q g =
+          (x y : Tidy) (b : Bool) (e : Event) (a : Act) → y ≡ find-tidy f t → x ≡ cond (ltb m 129) y Settled → b ≡ settled x →
+          e ≡ cond b (next-event f t) Never → a ≡ act-of t x (plan-of d t e) → Holds a
+      turn-holds x y b e a i h u q g =
           subst Holds (sym g)
-          (act-holds x (h ∙ ap (λ (z : Tidy). cond (ltb m 129) z Settled) i) p (q ∙ ap (λ (z : Bool). cond z (plan-of d t (next-event f t)) End) e))
+          (act-holds x (h ∙ ap (λ (z : Tidy). cond (ltb m 129) z Settled) i) (plan-of d t e) (planned b e q ∙ ap (λ (z : Bool). cond z (plan-of d t (next-event f t)) End) u))
 
     -- ---- what an act makes of the front, by the act
 

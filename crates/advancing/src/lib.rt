@@ -4,7 +4,6 @@ ghost use mathlib.Core.Bool.{cond};
 ghost use lib.Dec.{ltb};
 ghost use lib.Ieee.{le};
 ghost use lib.ListN.{length};
-ghost use Rattle.front.specs.NextEvent;
 ghost use Rattle.front.specs.Sweeps;
 ghost use Rattle.advancing.specs.Turning;
 ghost use Rattle.advancing.specs.declared.Plan.the-variants.{End};
@@ -86,24 +85,12 @@ pub fn in_steps(m: usize, found: Tidy) -> Tidy
     if m < 129 { found } else { Tidy::Settled }
 }
 
-// What is planned, if the front is tidied.
-pub fn plan_if(tidied: bool, d: f64, travelled: f64, edges: [Edge; 128]) -> Plan
-    ensures { λ r. ⌜ r ≡ cond tidied (Turning.plan-of d travelled (NextEvent.next-event edges travelled)) End ⌝ }
-{
-    if tidied {
-        let event = events::next_event(edges, travelled);
-        plan_of(d, travelled, event)
-    } else {
-        Plan::End
-    }
-}
-
-// What is done, by what tidying finds, or else by the plan.
-pub fn act_of(travelled: f64, found: Tidy, p: Plan) -> Act
-    ensures { λ r. ⌜ r ≡ Acts.act-of travelled found p ⌝ }
+// What is done, by what tidying finds, or else by the event.
+pub fn act_of(d: f64, travelled: f64, found: Tidy, e: Event) -> Act
+    ensures { λ r. ⌜ r ≡ Acts.act-of travelled found (Turning.plan-of d travelled e) ⌝ }
 {
     match found {
-        Tidy::Settled => act_by(p),
+        Tidy::Settled => act_by(plan_of(d, travelled, e)),
         Tidy::SmallRing(slot) => Act::Other(Tidy::SmallRing(slot)),
         Tidy::Straight(slot) => Act::Shrink(slot, travelled, false, true),
         Tidy::Spike(slot) => Act::Other(Tidy::Spike(slot)),
@@ -138,8 +125,8 @@ pub fn advance(d: f64, l: Loaded) -> Sweep
         // what it ensures is used: a store out of the front is left out
         let room = slots(edges);
         let found = in_steps(m, tidying::find_tidy(edges, travelled));
-        let plan = plan_if(tidying::settled(found), d, travelled, edges);
-        let act = act_of(travelled, found, plan);
+        let event = events::next_event(tidying::settled(found), edges, travelled);
+        let act = act_of(d, travelled, found, event);
         match act {
             Act::Stop => {
                 return Sweep {

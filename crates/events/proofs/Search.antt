@@ -1,7 +1,7 @@
 -- What holds at the head of each loop of the search, and what follows where the search ends. Assumes nothing.
 use Prim.Native.Nat.{ℕ, _+_, _-_, _<_, _≤_}
 use mathlib.Core.Path.{_≡_, refl, sym, ap, _∙_}
-use mathlib.Core.Bool.{Bool, true, false, cond}
+use mathlib.Core.Bool.{Bool, true, false, cond, not, true≢false, false≢true}
 use mathlib.Core.List.{List}
 use native.Mathlib.Omega.{arith}
 use lib.Ieee.{Float}
@@ -9,12 +9,22 @@ use Rattle.plane.specs.declared.PlanarPoint.{PlanarPoint}
 use Rattle.math.specs.Number.{zero-float}
 use Rattle.front.specs.declared.Edge.{Edge}
 use Rattle.front.specs.declared.EventSearch.{EventSearch}
+use Rattle.front.specs.declared.Event.{Event}
 use Rattle.front.specs.declared.Event.the-variants.{Stalled}
 use Rattle.front.specs.NextEvent.{look-stalled, candidate, hit-step, look-at, look-step, look, event-of, next-event}
 use Rattle.loops.specs.Loop.{rounds}
 use Rattle.loops.proofs.Laws.{no-round, next-round, goes-on, ends, stays-to}
 use Rattle.events.specs.Found.{collapse-of, split-of, search-of, used-slots}
 use Rattle.events.proofs.Used.{used-room, looks-used}
+
+-- a front that is not tidied is not searched
+pub not-tidied : (b : Bool) (x y : Event) → not b ≡ true → y ≡ cond b x y
+not-tidied true x y h = absurd (false≢true h)
+not-tidied false x y h = refl
+
+pub when-tidied : (b : Bool) (x y : Event) → not b ≡ false → x ≡ cond b x y
+when-tidied true x y h = refl
+when-tidied false x y h = absurd (true≢false h)
 
 -- before the first turn
 abbrev pub none : EventSearch

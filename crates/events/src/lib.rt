@@ -1,6 +1,8 @@
 // The search for the next event of the front: the soonest collapse and the soonest split.
 ghost use mathlib.Core.Path.{_≡_};
+ghost use mathlib.Core.Bool.{cond};
 ghost use Rattle.front.specs.NextEvent;
+ghost use Rattle.front.specs.declared.Event.the-variants.{Never};
 ghost use Rattle.events.specs.Found;
 use front::Edge;
 use front::Event;
@@ -207,10 +209,13 @@ pub fn strike_at(
     strike(target, lines::moved_by(p, v, step), from, to)
 }
 
-// The soonest event after offset t. A vertex without a velocity ends the search.
-pub fn next_event(edges: [Edge; 128], t: f64) -> Event
-    ensures { λ r. ⌜ r ≡ NextEvent.next-event edges t ⌝ }
+// The soonest event after offset t of a front that is tidied; of another, none. A vertex without a velocity ends the search.
+pub fn next_event(tidied: bool, edges: [Edge; 128], t: f64) -> Event
+    ensures { λ r. ⌜ r ≡ cond tidied (NextEvent.next-event edges t) Never ⌝ }
 {
+    if !tidied {
+        return Event::Never;
+    }
     let mut shrinks = false;
     let mut gone = 0;
     let mut soon = 0.0;

@@ -8,6 +8,9 @@ use Rattle.advancing.proofs.act_of.Tie as tie
 enum-told : tie.Need-enum-told
 enum-told c = search needs
 
+plan-of-requires : tie.Need-plan-of-requires
+plan-of-requires c κs = search needs
+
 act-by-requires : tie.Need-act-by-requires
 act-by-requires c κs = search needs
 
@@ -25,7 +28,7 @@ enum-known-found-4 c = search needs
 
 returns : tie.Need-returns
 unfolding act-of
-returns c = c .act-by .ensures ∙ rw (c .before .enum-told .given .1) refl
+returns c = c .act-by .ensures ∙ rw (c .before .plan-of .ensures, c .before .before .enum-told .given .1) refl
 
 returns-2 : tie.Need-returns-2
 unfolding act-of
@@ -48,6 +51,7 @@ act-of-spec =
     tie.close
     (tie.spec
     enum-told
+    plan-of-requires
     act-by-requires
     enum-known-found
     enum-known-found-2

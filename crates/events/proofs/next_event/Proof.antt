@@ -8,35 +8,38 @@ use Rattle.front.proofs.EdgeLaws.{edge-in}
 use Rattle.loops.specs.Loop.{rounds}
 use Rattle.loops.proofs.Laws.{no-round, ends}
 use Rattle.events.specs.Found.{search-of, used-step, used-slots}
-use Rattle.events.proofs.Search.{Outer, Inner, starts, slot-fits, passes-slot, enters, goes, leaves, stalls-outside, stalls-inside, searched, in-room, falls}
+use Rattle.events.proofs.Search.{not-tidied, when-tidied, Outer, Inner, starts, slot-fits, passes-slot, enters, goes, leaves, stalls-outside, stalls-inside, searched, in-room, falls}
 use Rattle.events.proofs.Turns.{slot-in, reads, turn-lost, turn-on, passes-edge, passes-step, strikes-lost, strikes-on}
 use Rattle.events.proofs.Used.{used-on, dead-slot}
 use Rattle.events.proofs.next_event.Statement.{statement}
 use Rattle.events.proofs.next_event.Tie as tie
 
 abbrev Inv-loop : tie.InvT-loop
-Inv-loop t edges shrinks gone soon splits vertex hit step used₀ u₀ used u =
+Inv-loop tidied t edges shrinks gone soon splits vertex hit step used₀ u₀ used u =
     (u ≤ 128) × (used ≡ rounds (used-step edges) u 0)
 
 abbrev μ-loop : tie.MeasureT-loop
-μ-loop t edges shrinks gone soon splits vertex hit step used₀ u₀ used u =
+μ-loop tidied t edges shrinks gone soon splits vertex hit step used₀ u₀ used u =
     128 - u
 
 abbrev Inv-loop3 : tie.InvT-loop3
-Inv-loop3 t edges shrinks gone soon splits₀ vertex₀ hit₀ step₀ used u i slot p n b turn end j₀ splits vertex hit step j =
+Inv-loop3 tidied t edges shrinks gone soon splits₀ vertex₀ hit₀ step₀ used u i slot p n b turn end j₀ splits vertex hit step j =
     Inner edges t used slot p (turn .at) (turn .velocity) end (search-of shrinks gone soon splits₀ vertex₀ hit₀ step₀) i (search-of shrinks gone soon splits vertex hit step) j
 
 abbrev μ-loop3 : tie.MeasureT-loop3
-μ-loop3 t edges shrinks gone soon splits₀ vertex₀ hit₀ step₀ used u i slot p n b turn end j₀ splits vertex hit step j =
+μ-loop3 tidied t edges shrinks gone soon splits₀ vertex₀ hit₀ step₀ used u i slot p n b turn end j₀ splits vertex hit step j =
     end - j
 
 abbrev Inv-loop2 : tie.InvT-loop2
-Inv-loop2 t edges shrinks₀ gone₀ soon₀ splits₀ vertex₀ hit₀ step₀ used u i₀ shrinks gone soon splits vertex hit step i =
+Inv-loop2 tidied t edges shrinks₀ gone₀ soon₀ splits₀ vertex₀ hit₀ step₀ used u i₀ shrinks gone soon splits vertex hit step i =
     Outer edges t used (search-of shrinks gone soon splits vertex hit step) i
 
 abbrev μ-loop2 : tie.MeasureT-loop2
-μ-loop2 t edges shrinks₀ gone₀ soon₀ splits₀ vertex₀ hit₀ step₀ used u i₀ shrinks gone soon splits vertex hit step i =
+μ-loop2 tidied t edges shrinks₀ gone₀ soon₀ splits₀ vertex₀ hit₀ step₀ used u i₀ shrinks gone soon splits vertex hit step i =
     used - i
+
+returns : tie.Need-returns Inv-loop μ-loop Inv-loop3 μ-loop3 Inv-loop2 μ-loop2
+returns c = not-tidied (c .before .args .tidied) _ _ (c .if1 .taken)
 
 loop-holds : tie.Need-loop-holds Inv-loop μ-loop Inv-loop3 μ-loop3 Inv-loop2 μ-loop2
 loop-holds c = (search needs, sym (no-round _ _))
@@ -76,10 +79,10 @@ choose-requires-2 : tie.Need-choose-requires-2 Inv-loop μ-loop Inv-loop3 μ-loo
 choose-requires-2 c κs = search needs
 
 mul-edge-or : tie.Need-mul-edge-or Inv-loop μ-loop Inv-loop3 μ-loop3 Inv-loop2 μ-loop2
-mul-edge-or c = search (needs, slot-in ((getD (c .before .before .before .before .before .before .before .args .t1) (c .before .before .before .before .loop2 .i) blank) .previous) _ (c .choose2 .ensures))
+mul-edge-or c = search (needs, slot-in ((getD (c .before .before .before .before .before .before .before .before .args .t2) (c .before .before .before .before .loop2 .i) blank) .previous) _ (c .choose2 .ensures))
 
 array-copy-out-edge-or : tie.Need-array-copy-out-edge-or Inv-loop μ-loop Inv-loop3 μ-loop3 Inv-loop2 μ-loop2
-array-copy-out-edge-or c = search (needs, slot-in ((getD (c .before .before .before .before .before .before .before .args .t1) (c .before .before .before .before .loop2 .i) blank) .previous) _ (c .choose2 .ensures))
+array-copy-out-edge-or c = search (needs, slot-in ((getD (c .before .before .before .before .before .before .before .before .args .t2) (c .before .before .before .before .loop2 .i) blank) .previous) _ (c .choose2 .ensures))
 
 edge-or-requires : tie.Need-edge-or-requires Inv-loop μ-loop Inv-loop3 μ-loop3 Inv-loop2 μ-loop2
 edge-or-requires c κs = search needs
@@ -88,10 +91,10 @@ choose-requires-3 : tie.Need-choose-requires-3 Inv-loop μ-loop Inv-loop3 μ-loo
 choose-requires-3 c κs = search needs
 
 mul-edge-or-2 : tie.Need-mul-edge-or-2 Inv-loop μ-loop Inv-loop3 μ-loop3 Inv-loop2 μ-loop2
-mul-edge-or-2 c = search (needs, slot-in ((getD (c .before .before .before .before .before .before .before .before .before .before .args .t1) (c .before .before .before .before .before .before .before .loop2 .i) blank) .next) _ (c .choose3 .ensures))
+mul-edge-or-2 c = search (needs, slot-in ((getD (c .before .before .before .before .before .before .before .before .before .before .before .args .t2) (c .before .before .before .before .before .before .before .loop2 .i) blank) .next) _ (c .choose3 .ensures))
 
 array-copy-out-edge-or-2 : tie.Need-array-copy-out-edge-or-2 Inv-loop μ-loop Inv-loop3 μ-loop3 Inv-loop2 μ-loop2
-array-copy-out-edge-or-2 c = search (needs, slot-in ((getD (c .before .before .before .before .before .before .before .before .before .before .args .t1) (c .before .before .before .before .before .before .before .loop2 .i) blank) .next) _ (c .choose3 .ensures))
+array-copy-out-edge-or-2 c = search (needs, slot-in ((getD (c .before .before .before .before .before .before .before .before .before .before .before .args .t2) (c .before .before .before .before .before .before .before .loop2 .i) blank) .next) _ (c .choose3 .ensures))
 
 edge-or-requires-2 : tie.Need-edge-or-requires-2 Inv-loop μ-loop Inv-loop3 μ-loop3 Inv-loop2 μ-loop2
 edge-or-requires-2 c κs = search needs
@@ -111,8 +114,8 @@ edge-or-requires-3 c κs = search needs
 turn-at-requires : tie.Need-turn-at-requires Inv-loop μ-loop Inv-loop3 μ-loop3 Inv-loop2 μ-loop2
 turn-at-requires c κs = search needs
 
-returns : tie.Need-returns Inv-loop μ-loop Inv-loop3 μ-loop3 Inv-loop2 μ-loop2
-returns c = stalls-outside _ _ _ _ _ (c .before .before .before .before .before .before .before .before .before .before .before .before .before .loop2-test .taken) (c .before .before .before .before .before .before .before .before .before .before .before .before .before .before .loop2 .inv) (turn-lost (c .before .before .before .before .before .before .before .before .before .before .before .before .before .before .before .before .before .args .t1) (c .before .before .before .before .before .before .before .before .before .before .before .before .before .before .before .before .before .args .t) _ _ _ _ _ _ _ _ _ (sym (edge-in _ _ (slot-fits _ _ _ _ _ (c .before .before .before .before .before .before .before .before .before .before .before .before .before .loop2-test .taken) (c .before .before .before .before .before .before .before .before .before .before .before .before .before .before .loop2 .inv)))) _ _ _ _ (c .before .before .before .before .before .before .before .before .before .before .before .if1 .taken) (reads _ _ _ _ (c .before .before .before .before .before .before .before .before .before .before .choose2 .ensures) (c .before .before .before .before .before .before .before .before .edge-or .ensures)) (reads _ _ _ _ (c .before .before .before .before .before .before .before .choose3 .ensures) (c .before .before .before .before .before .edge-or2 .ensures)) (reads _ _ _ _ (c .before .before .before .before .choose4 .ensures) (c .before .before .edge-or3 .ensures)) (c .before .turn-at .ensures) (c .if2 .taken))
+returns-2 : tie.Need-returns-2 Inv-loop μ-loop Inv-loop3 μ-loop3 Inv-loop2 μ-loop2
+returns-2 c = stalls-outside _ _ _ _ _ (c .before .before .before .before .before .before .before .before .before .before .before .before .before .loop2-test .taken) (c .before .before .before .before .before .before .before .before .before .before .before .before .before .before .loop2 .inv) (turn-lost (c .before .before .before .before .before .before .before .before .before .before .before .before .before .before .before .before .before .before .args .t2) (c .before .before .before .before .before .before .before .before .before .before .before .before .before .before .before .before .before .before .args .t) _ _ _ _ _ _ _ _ _ (sym (edge-in _ _ (slot-fits _ _ _ _ _ (c .before .before .before .before .before .before .before .before .before .before .before .before .before .loop2-test .taken) (c .before .before .before .before .before .before .before .before .before .before .before .before .before .before .loop2 .inv)))) _ _ _ _ (c .before .before .before .before .before .before .before .before .before .before .before .if2 .taken) (reads _ _ _ _ (c .before .before .before .before .before .before .before .before .before .before .choose2 .ensures) (c .before .before .before .before .before .before .before .before .edge-or .ensures)) (reads _ _ _ _ (c .before .before .before .before .before .before .before .choose3 .ensures) (c .before .before .before .before .before .edge-or2 .ensures)) (reads _ _ _ _ (c .before .before .before .before .choose4 .ensures) (c .before .before .edge-or3 .ensures)) (c .before .turn-at .ensures) (c .if3 .taken)) ∙ when-tidied (c .before .before .before .before .before .before .before .before .before .before .before .before .before .before .before .before .before .before .args .tidied) _ _ (c .before .before .before .before .before .before .before .before .before .before .before .before .before .before .before .before .before .if1 .left)
 
 choose-requires-5 : tie.Need-choose-requires-5 Inv-loop μ-loop Inv-loop3 μ-loop3 Inv-loop2 μ-loop2
 choose-requires-5 c κs = search needs
@@ -124,7 +127,7 @@ choose-requires-7 : tie.Need-choose-requires-7 Inv-loop μ-loop Inv-loop3 μ-loo
 choose-requires-7 c κs = search needs
 
 loop3-holds : tie.Need-loop3-holds Inv-loop μ-loop Inv-loop3 μ-loop3 Inv-loop2 μ-loop2
-loop3-holds c = enters _ _ _ _ _ _ (c .before .before .before .before .before .turn-at .result .reflex) _ _ _ _ (c .before .before .before .before .before .before .before .before .before .before .before .before .before .before .before .before .before .loop2-test .taken) (c .before .before .before .before .before .before .before .before .before .before .before .before .before .before .before .before .before .before .loop2 .inv) (turn-on (c .before .before .before .before .before .before .before .before .before .before .before .before .before .before .before .before .before .before .before .before .before .args .t1) (c .before .before .before .before .before .before .before .before .before .before .before .before .before .before .before .before .before .before .before .before .before .args .t) _ _ _ _ _ _ _ _ _ (sym (edge-in _ _ (slot-fits _ _ _ _ _ (c .before .before .before .before .before .before .before .before .before .before .before .before .before .before .before .before .before .loop2-test .taken) (c .before .before .before .before .before .before .before .before .before .before .before .before .before .before .before .before .before .before .loop2 .inv)))) _ _ _ _ (c .before .before .before .before .before .before .before .before .before .before .before .before .before .before .before .if1 .taken) (reads _ _ _ _ (c .before .before .before .before .before .before .before .before .before .before .before .before .before .before .choose2 .ensures) (c .before .before .before .before .before .before .before .before .before .before .before .before .edge-or .ensures)) (reads _ _ _ _ (c .before .before .before .before .before .before .before .before .before .before .before .choose3 .ensures) (c .before .before .before .before .before .before .before .before .before .edge-or2 .ensures)) (reads _ _ _ _ (c .before .before .before .before .before .before .before .before .choose4 .ensures) (c .before .before .before .before .before .before .edge-or3 .ensures)) (c .before .before .before .before .before .turn-at .ensures) _ _ (c .before .before .choose5 .ensures) (c .before .choose6 .ensures) (c .before .before .before .before .if2 .left)) (c .choose7 .ensures)
+loop3-holds c = enters _ _ _ _ _ _ (c .before .before .before .before .before .turn-at .result .reflex) _ _ _ _ (c .before .before .before .before .before .before .before .before .before .before .before .before .before .before .before .before .before .loop2-test .taken) (c .before .before .before .before .before .before .before .before .before .before .before .before .before .before .before .before .before .before .loop2 .inv) (turn-on (c .before .before .before .before .before .before .before .before .before .before .before .before .before .before .before .before .before .before .before .before .before .before .args .t2) (c .before .before .before .before .before .before .before .before .before .before .before .before .before .before .before .before .before .before .before .before .before .before .args .t) _ _ _ _ _ _ _ _ _ (sym (edge-in _ _ (slot-fits _ _ _ _ _ (c .before .before .before .before .before .before .before .before .before .before .before .before .before .before .before .before .before .loop2-test .taken) (c .before .before .before .before .before .before .before .before .before .before .before .before .before .before .before .before .before .before .loop2 .inv)))) _ _ _ _ (c .before .before .before .before .before .before .before .before .before .before .before .before .before .before .before .if2 .taken) (reads _ _ _ _ (c .before .before .before .before .before .before .before .before .before .before .before .before .before .before .choose2 .ensures) (c .before .before .before .before .before .before .before .before .before .before .before .before .edge-or .ensures)) (reads _ _ _ _ (c .before .before .before .before .before .before .before .before .before .before .before .choose3 .ensures) (c .before .before .before .before .before .before .before .before .before .edge-or2 .ensures)) (reads _ _ _ _ (c .before .before .before .before .before .before .before .before .choose4 .ensures) (c .before .before .before .before .before .before .edge-or3 .ensures)) (c .before .before .before .before .before .turn-at .ensures) _ _ (c .before .before .choose5 .ensures) (c .before .choose6 .ensures) (c .before .before .before .before .if3 .left)) (c .choose7 .ensures)
 
 loop2-less : tie.Need-loop2-less Inv-loop μ-loop Inv-loop3 μ-loop3 Inv-loop2 μ-loop2
 loop2-less c = falls _ _ (c .before .before .before .before .before .before .before .before .before .before .before .before .before .before .before .before .before .before .before .loop2-test .taken)
@@ -151,10 +154,10 @@ choose-requires-8 : tie.Need-choose-requires-8 Inv-loop μ-loop Inv-loop3 μ-loo
 choose-requires-8 c κs = search needs
 
 mul-edge-or-4 : tie.Need-mul-edge-or-4 Inv-loop μ-loop Inv-loop3 μ-loop3 Inv-loop2 μ-loop2
-mul-edge-or-4 c = search (needs, slot-in ((getD (c .before .before .before .before .before .before .before .before .before .before .before .before .before .before .before .before .before .before .before .before .before .before .before .before .before .before .before .before .before .before .args .t1) (c .before .before .before .before .before .before .before .before .loop3 .j) blank) .previous) _ (c .choose8 .ensures))
+mul-edge-or-4 c = search (needs, slot-in ((getD (c .before .before .before .before .before .before .before .before .before .before .before .before .before .before .before .before .before .before .before .before .before .before .before .before .before .before .before .before .before .before .before .args .t2) (c .before .before .before .before .before .before .before .before .loop3 .j) blank) .previous) _ (c .choose8 .ensures))
 
 array-copy-out-edge-or-4 : tie.Need-array-copy-out-edge-or-4 Inv-loop μ-loop Inv-loop3 μ-loop3 Inv-loop2 μ-loop2
-array-copy-out-edge-or-4 c = search (needs, slot-in ((getD (c .before .before .before .before .before .before .before .before .before .before .before .before .before .before .before .before .before .before .before .before .before .before .before .before .before .before .before .before .before .before .args .t1) (c .before .before .before .before .before .before .before .before .loop3 .j) blank) .previous) _ (c .choose8 .ensures))
+array-copy-out-edge-or-4 c = search (needs, slot-in ((getD (c .before .before .before .before .before .before .before .before .before .before .before .before .before .before .before .before .before .before .before .before .before .before .before .before .before .before .before .before .before .before .before .args .t2) (c .before .before .before .before .before .before .before .before .loop3 .j) blank) .previous) _ (c .choose8 .ensures))
 
 edge-or-requires-4 : tie.Need-edge-or-requires-4 Inv-loop μ-loop Inv-loop3 μ-loop3 Inv-loop2 μ-loop2
 edge-or-requires-4 c κs = search needs
@@ -163,10 +166,10 @@ choose-requires-9 : tie.Need-choose-requires-9 Inv-loop μ-loop Inv-loop3 μ-loo
 choose-requires-9 c κs = search needs
 
 mul-edge-or-5 : tie.Need-mul-edge-or-5 Inv-loop μ-loop Inv-loop3 μ-loop3 Inv-loop2 μ-loop2
-mul-edge-or-5 c = search (needs, slot-in ((getD (c .before .before .before .before .before .before .before .before .before .before .before .before .before .before .before .before .before .before .before .before .before .before .before .before .before .before .before .before .before .before .before .before .before .args .t1) (c .before .before .before .before .before .before .before .before .before .before .before .loop3 .j) blank) .next) _ (c .choose9 .ensures))
+mul-edge-or-5 c = search (needs, slot-in ((getD (c .before .before .before .before .before .before .before .before .before .before .before .before .before .before .before .before .before .before .before .before .before .before .before .before .before .before .before .before .before .before .before .before .before .before .args .t2) (c .before .before .before .before .before .before .before .before .before .before .before .loop3 .j) blank) .next) _ (c .choose9 .ensures))
 
 array-copy-out-edge-or-5 : tie.Need-array-copy-out-edge-or-5 Inv-loop μ-loop Inv-loop3 μ-loop3 Inv-loop2 μ-loop2
-array-copy-out-edge-or-5 c = search (needs, slot-in ((getD (c .before .before .before .before .before .before .before .before .before .before .before .before .before .before .before .before .before .before .before .before .before .before .before .before .before .before .before .before .before .before .before .before .before .args .t1) (c .before .before .before .before .before .before .before .before .before .before .before .loop3 .j) blank) .next) _ (c .choose9 .ensures))
+array-copy-out-edge-or-5 c = search (needs, slot-in ((getD (c .before .before .before .before .before .before .before .before .before .before .before .before .before .before .before .before .before .before .before .before .before .before .before .before .before .before .before .before .before .before .before .before .before .before .args .t2) (c .before .before .before .before .before .before .before .before .before .before .before .loop3 .j) blank) .next) _ (c .choose9 .ensures))
 
 edge-or-requires-5 : tie.Need-edge-or-requires-5 Inv-loop μ-loop Inv-loop3 μ-loop3 Inv-loop2 μ-loop2
 edge-or-requires-5 c κs = search needs
@@ -186,8 +189,8 @@ edge-or-requires-6 c κs = search needs
 strike-at-requires : tie.Need-strike-at-requires Inv-loop μ-loop Inv-loop3 μ-loop3 Inv-loop2 μ-loop2
 strike-at-requires c κs = search needs
 
-returns-2 : tie.Need-returns-2 Inv-loop μ-loop Inv-loop3 μ-loop3 Inv-loop2 μ-loop2
-returns-2 c = stalls-inside _ _ _ _ _ _ _ _ _ _ _ _ (c .before .before .before .before .before .before .before .before .before .before .before .before .before .before .before .before .before .loop3-test .taken) (c .before .before .before .before .before .before .before .before .before .before .before .before .before .before .before .before .before .before .loop3 .inv) (strikes-lost (c .before .before .before .before .before .before .before .before .before .before .before .before .before .before .before .before .before .before .before .before .before .before .before .before .before .before .before .before .before .before .before .before .before .before .before .before .before .before .before .before .args .t1) (c .before .before .before .before .before .before .before .before .before .before .before .before .before .before .before .before .before .before .before .before .before .before .before .before .before .before .before .before .before .before .before .before .before .before .before .before .before .before .before .before .args .t) _ _ _ _ _ _ _ _ _ _ _ _ _ (sym (edge-in _ _ (in-room _ _ _ (c .before .before .before .before .before .before .before .before .before .before .before .before .before .before .before .before .before .loop3-test .taken) (c .before .before .before .before .before .before .before .before .before .before .before .before .before .before .before .before .before .before .loop3 .inv .room)))) _ (c .before .before .before .before .before .before .before .before .before .before .before .before .before .before .before .closing .ensures) (c .before .before .before .before .before .before .before .before .before .before .before .before .before .if3 .taken) _ (c .before .before .before .before .before .before .before .before .before .before .before .before .step-to .ensures) (c .before .before .before .before .before .before .before .before .before .before .before .if4 .taken) _ _ _ _ (reads _ _ _ _ (c .before .before .before .before .before .before .before .before .before .before .choose8 .ensures) (c .before .before .before .before .before .before .before .before .edge-or4 .ensures)) (reads _ _ _ _ (c .before .before .before .before .before .before .before .choose9 .ensures) (c .before .before .before .before .before .edge-or5 .ensures)) (reads _ _ _ _ (c .before .before .before .before .choose10 .ensures) (c .before .before .edge-or6 .ensures)) (c .before .strike-at .ensures) (c .if5 .taken))
+returns-3 : tie.Need-returns-3 Inv-loop μ-loop Inv-loop3 μ-loop3 Inv-loop2 μ-loop2
+returns-3 c = stalls-inside _ _ _ _ _ _ _ _ _ _ _ _ (c .before .before .before .before .before .before .before .before .before .before .before .before .before .before .before .before .before .loop3-test .taken) (c .before .before .before .before .before .before .before .before .before .before .before .before .before .before .before .before .before .before .loop3 .inv) (strikes-lost (c .before .before .before .before .before .before .before .before .before .before .before .before .before .before .before .before .before .before .before .before .before .before .before .before .before .before .before .before .before .before .before .before .before .before .before .before .before .before .before .before .before .args .t2) (c .before .before .before .before .before .before .before .before .before .before .before .before .before .before .before .before .before .before .before .before .before .before .before .before .before .before .before .before .before .before .before .before .before .before .before .before .before .before .before .before .before .args .t) _ _ _ _ _ _ _ _ _ _ _ _ _ (sym (edge-in _ _ (in-room _ _ _ (c .before .before .before .before .before .before .before .before .before .before .before .before .before .before .before .before .before .loop3-test .taken) (c .before .before .before .before .before .before .before .before .before .before .before .before .before .before .before .before .before .before .loop3 .inv .room)))) _ (c .before .before .before .before .before .before .before .before .before .before .before .before .before .before .before .closing .ensures) (c .before .before .before .before .before .before .before .before .before .before .before .before .before .if4 .taken) _ (c .before .before .before .before .before .before .before .before .before .before .before .before .step-to .ensures) (c .before .before .before .before .before .before .before .before .before .before .before .if5 .taken) _ _ _ _ (reads _ _ _ _ (c .before .before .before .before .before .before .before .before .before .before .choose8 .ensures) (c .before .before .before .before .before .before .before .before .edge-or4 .ensures)) (reads _ _ _ _ (c .before .before .before .before .before .before .before .choose9 .ensures) (c .before .before .before .before .before .edge-or5 .ensures)) (reads _ _ _ _ (c .before .before .before .before .choose10 .ensures) (c .before .before .edge-or6 .ensures)) (c .before .strike-at .ensures) (c .if6 .taken)) ∙ when-tidied (c .before .before .before .before .before .before .before .before .before .before .before .before .before .before .before .before .before .before .before .before .before .before .before .before .before .before .before .before .before .before .before .before .before .before .before .before .before .before .before .before .before .args .tidied) _ _ (c .before .before .before .before .before .before .before .before .before .before .before .before .before .before .before .before .before .before .before .before .before .before .before .before .before .before .before .before .before .before .before .before .before .before .before .before .before .before .before .before .if1 .left)
 
 choose-requires-11 : tie.Need-choose-requires-11 Inv-loop μ-loop Inv-loop3 μ-loop3 Inv-loop2 μ-loop2
 choose-requires-11 c κs = search needs
@@ -202,31 +205,31 @@ loop3-less : tie.Need-loop3-less Inv-loop μ-loop Inv-loop3 μ-loop3 Inv-loop2 �
 loop3-less c = falls _ _ (c .before .before .before .before .before .before .before .before .before .before .before .before .before .before .before .before .before .before .before .before .before .loop3-test .taken)
 
 loop3-again : tie.Need-loop3-again Inv-loop μ-loop Inv-loop3 μ-loop3 Inv-loop2 μ-loop2
-loop3-again c = goes _ _ _ _ _ _ _ _ _ _ _ _ _ (c .before .before .before .before .before .before .before .before .before .before .before .before .before .before .before .before .before .before .before .before .before .loop3-test .taken) (c .before .before .before .before .before .before .before .before .before .before .before .before .before .before .before .before .before .before .before .before .before .before .loop3 .inv) (strikes-on (c .before .before .before .before .before .before .before .before .before .before .before .before .before .before .before .before .before .before .before .before .before .before .before .before .before .before .before .before .before .before .before .before .before .before .before .before .before .before .before .before .before .before .before .before .args .t1) (c .before .before .before .before .before .before .before .before .before .before .before .before .before .before .before .before .before .before .before .before .before .before .before .before .before .before .before .before .before .before .before .before .before .before .before .before .before .before .before .before .before .before .before .before .args .t) _ _ _ _ _ _ _ _ _ _ _ _ _ (sym (edge-in _ _ (in-room _ _ _ (c .before .before .before .before .before .before .before .before .before .before .before .before .before .before .before .before .before .before .before .before .before .loop3-test .taken) (c .before .before .before .before .before .before .before .before .before .before .before .before .before .before .before .before .before .before .before .before .before .before .loop3 .inv .room)))) _ (c .before .before .before .before .before .before .before .before .before .before .before .before .before .before .before .before .before .before .before .closing .ensures) (c .before .before .before .before .before .before .before .before .before .before .before .before .before .before .before .before .before .if3 .taken) _ (c .before .before .before .before .before .before .before .before .before .before .before .before .before .before .before .before .step-to .ensures) (c .before .before .before .before .before .before .before .before .before .before .before .before .before .before .before .if4 .taken) _ _ _ _ (reads _ _ _ _ (c .before .before .before .before .before .before .before .before .before .before .before .before .before .before .choose8 .ensures) (c .before .before .before .before .before .before .before .before .before .before .before .before .edge-or4 .ensures)) (reads _ _ _ _ (c .before .before .before .before .before .before .before .before .before .before .before .choose9 .ensures) (c .before .before .before .before .before .before .before .before .before .edge-or5 .ensures)) (reads _ _ _ _ (c .before .before .before .before .before .before .before .before .choose10 .ensures) (c .before .before .before .before .before .before .edge-or6 .ensures)) (c .before .before .before .before .before .strike-at .ensures) _ _ _ (c .before .before .choose11 .ensures) (c .before .choose12 .ensures) (c .choose13 .ensures) (c .before .before .before .before .if5 .left))
+loop3-again c = goes _ _ _ _ _ _ _ _ _ _ _ _ _ (c .before .before .before .before .before .before .before .before .before .before .before .before .before .before .before .before .before .before .before .before .before .loop3-test .taken) (c .before .before .before .before .before .before .before .before .before .before .before .before .before .before .before .before .before .before .before .before .before .before .loop3 .inv) (strikes-on (c .before .before .before .before .before .before .before .before .before .before .before .before .before .before .before .before .before .before .before .before .before .before .before .before .before .before .before .before .before .before .before .before .before .before .before .before .before .before .before .before .before .before .before .before .before .args .t2) (c .before .before .before .before .before .before .before .before .before .before .before .before .before .before .before .before .before .before .before .before .before .before .before .before .before .before .before .before .before .before .before .before .before .before .before .before .before .before .before .before .before .before .before .before .before .args .t) _ _ _ _ _ _ _ _ _ _ _ _ _ (sym (edge-in _ _ (in-room _ _ _ (c .before .before .before .before .before .before .before .before .before .before .before .before .before .before .before .before .before .before .before .before .before .loop3-test .taken) (c .before .before .before .before .before .before .before .before .before .before .before .before .before .before .before .before .before .before .before .before .before .before .loop3 .inv .room)))) _ (c .before .before .before .before .before .before .before .before .before .before .before .before .before .before .before .before .before .before .before .closing .ensures) (c .before .before .before .before .before .before .before .before .before .before .before .before .before .before .before .before .before .if4 .taken) _ (c .before .before .before .before .before .before .before .before .before .before .before .before .before .before .before .before .step-to .ensures) (c .before .before .before .before .before .before .before .before .before .before .before .before .before .before .before .if5 .taken) _ _ _ _ (reads _ _ _ _ (c .before .before .before .before .before .before .before .before .before .before .before .before .before .before .choose8 .ensures) (c .before .before .before .before .before .before .before .before .before .before .before .before .edge-or4 .ensures)) (reads _ _ _ _ (c .before .before .before .before .before .before .before .before .before .before .before .choose9 .ensures) (c .before .before .before .before .before .before .before .before .before .edge-or5 .ensures)) (reads _ _ _ _ (c .before .before .before .before .before .before .before .before .choose10 .ensures) (c .before .before .before .before .before .before .edge-or6 .ensures)) (c .before .before .before .before .before .strike-at .ensures) _ _ _ (c .before .before .choose11 .ensures) (c .before .choose12 .ensures) (c .choose13 .ensures) (c .before .before .before .before .if6 .left))
 
 loop3-less-2 : tie.Need-loop3-less-2 Inv-loop μ-loop Inv-loop3 μ-loop3 Inv-loop2 μ-loop2
 loop3-less-2 c = falls _ _ (c .before .before .before .before .before .before .loop3-test .taken)
 
 loop3-again-2 : tie.Need-loop3-again-2 Inv-loop μ-loop Inv-loop3 μ-loop3 Inv-loop2 μ-loop2
-loop3-again-2 c = goes _ _ _ _ _ _ _ _ _ _ _ _ _ (c .before .before .before .before .before .before .loop3-test .taken) (c .before .before .before .before .before .before .before .loop3 .inv) (passes-step (c .before .before .before .before .before .before .before .before .before .before .before .before .before .before .before .before .before .before .before .before .before .before .before .before .before .before .before .before .before .args .t1) (c .before .before .before .before .before .before .before .before .before .before .before .before .before .before .before .before .before .before .before .before .before .before .before .before .before .before .before .before .before .args .t) _ _ _ _ _ _ _ _ _ _ _ _ _ (sym (edge-in _ _ (in-room _ _ _ (c .before .before .before .before .before .before .loop3-test .taken) (c .before .before .before .before .before .before .before .loop3 .inv .room)))) _ (c .before .before .before .before .closing .ensures) (c .before .before .if3 .taken) _ (c .before .step-to .ensures) (c .if4 .left))
+loop3-again-2 c = goes _ _ _ _ _ _ _ _ _ _ _ _ _ (c .before .before .before .before .before .before .loop3-test .taken) (c .before .before .before .before .before .before .before .loop3 .inv) (passes-step (c .before .before .before .before .before .before .before .before .before .before .before .before .before .before .before .before .before .before .before .before .before .before .before .before .before .before .before .before .before .before .args .t2) (c .before .before .before .before .before .before .before .before .before .before .before .before .before .before .before .before .before .before .before .before .before .before .before .before .before .before .before .before .before .before .args .t) _ _ _ _ _ _ _ _ _ _ _ _ _ (sym (edge-in _ _ (in-room _ _ _ (c .before .before .before .before .before .before .loop3-test .taken) (c .before .before .before .before .before .before .before .loop3 .inv .room)))) _ (c .before .before .before .before .closing .ensures) (c .before .before .if4 .taken) _ (c .before .step-to .ensures) (c .if5 .left))
 
 loop3-less-3 : tie.Need-loop3-less-3 Inv-loop μ-loop Inv-loop3 μ-loop3 Inv-loop2 μ-loop2
 loop3-less-3 c = falls _ _ (c .before .before .before .before .loop3-test .taken)
 
 loop3-again-3 : tie.Need-loop3-again-3 Inv-loop μ-loop Inv-loop3 μ-loop3 Inv-loop2 μ-loop2
-loop3-again-3 c = goes _ _ _ _ _ _ _ _ _ _ _ _ _ (c .before .before .before .before .loop3-test .taken) (c .before .before .before .before .before .loop3 .inv) (passes-edge (c .before .before .before .before .before .before .before .before .before .before .before .before .before .before .before .before .before .before .before .before .before .before .before .before .before .before .before .args .t1) (c .before .before .before .before .before .before .before .before .before .before .before .before .before .before .before .before .before .before .before .before .before .before .before .before .before .before .before .args .t) _ _ _ _ _ _ _ _ _ _ _ _ _ (sym (edge-in _ _ (in-room _ _ _ (c .before .before .before .before .loop3-test .taken) (c .before .before .before .before .before .loop3 .inv .room)))) _ (c .before .before .closing .ensures) (c .if3 .left))
+loop3-again-3 c = goes _ _ _ _ _ _ _ _ _ _ _ _ _ (c .before .before .before .before .loop3-test .taken) (c .before .before .before .before .before .loop3 .inv) (passes-edge (c .before .before .before .before .before .before .before .before .before .before .before .before .before .before .before .before .before .before .before .before .before .before .before .before .before .before .before .before .args .t2) (c .before .before .before .before .before .before .before .before .before .before .before .before .before .before .before .before .before .before .before .before .before .before .before .before .before .before .before .before .args .t) _ _ _ _ _ _ _ _ _ _ _ _ _ (sym (edge-in _ _ (in-room _ _ _ (c .before .before .before .before .loop3-test .taken) (c .before .before .before .before .before .loop3 .inv .room)))) _ (c .before .before .closing .ensures) (c .if4 .left))
 
 loop2-less-2 : tie.Need-loop2-less-2 Inv-loop μ-loop Inv-loop3 μ-loop3 Inv-loop2 μ-loop2
 loop2-less-2 c = falls _ _ (c .before .before .loop2-test .taken)
 
 loop2-again-2 : tie.Need-loop2-again-2 Inv-loop μ-loop Inv-loop3 μ-loop3 Inv-loop2 μ-loop2
-loop2-again-2 c = passes-slot _ _ _ _ _ (c .before .before .loop2-test .taken) (c .before .before .before .loop2 .inv) (dead-slot _ _ _ _ _ (sym (edge-in _ _ (slot-fits _ _ _ _ _ (c .before .before .loop2-test .taken) (c .before .before .before .loop2 .inv)))) (c .if1 .left))
+loop2-again-2 c = passes-slot _ _ _ _ _ (c .before .before .loop2-test .taken) (c .before .before .before .loop2 .inv) (dead-slot _ _ _ _ _ (sym (edge-in _ _ (slot-fits _ _ _ _ _ (c .before .before .loop2-test .taken) (c .before .before .before .loop2 .inv)))) (c .if2 .left))
 
 event-of-requires : tie.Need-event-of-requires Inv-loop μ-loop Inv-loop3 μ-loop3 Inv-loop2 μ-loop2
 event-of-requires c κs = search needs
 
-returns-3 : tie.Need-returns-3 Inv-loop μ-loop Inv-loop3 μ-loop3 Inv-loop2 μ-loop2
-returns-3 c = c .event-of .ensures ∙ searched _ _ _ _ _ (c .before .loop2-test .left) (c .before .before .loop2 .inv)
+returns-4 : tie.Need-returns-4 Inv-loop μ-loop Inv-loop3 μ-loop3 Inv-loop2 μ-loop2
+returns-4 c = c .event-of .ensures ∙ searched _ _ _ _ _ (c .before .loop2-test .left) (c .before .before .loop2 .inv) ∙ when-tidied (c .before .before .before .before .before .before .args .tidied) _ _ (c .before .before .before .before .before .if1 .left)
 
 pub next-event-spec : {M : Type 1} → statement M
 next-event-spec =
@@ -238,6 +241,7 @@ next-event-spec =
     μ-loop3
     Inv-loop2
     μ-loop2
+    returns
     loop-holds
     mul-own
     array-copy-out-own
@@ -262,7 +266,7 @@ next-event-spec =
     array-copy-out-edge-or-3
     edge-or-requires-3
     turn-at-requires
-    returns
+    returns-2
     choose-requires-5
     choose-requires-6
     choose-requires-7
@@ -287,7 +291,7 @@ next-event-spec =
     array-copy-out-edge-or-6
     edge-or-requires-6
     strike-at-requires
-    returns-2
+    returns-3
     choose-requires-11
     choose-requires-12
     choose-requires-13
@@ -300,4 +304,4 @@ next-event-spec =
     loop2-less-2
     loop2-again-2
     event-of-requires
-    returns-3)
+    returns-4)
