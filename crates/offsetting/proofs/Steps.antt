@@ -23,7 +23,7 @@ use Rattle.front.specs.Sweeps.{offset-rings}
 use Rattle.offset.specs.Offsets.{check-distance, pieces, offset-finished, offset-swept, offset-counted, offset-plain, sweep, offset-from, offset-by, offset}
 use Rattle.offset.specs.Answers.{AnswerDemand}
 use Rattle.offset.proofs.Answers.{offset-demand}
-use Rattle.offsetting.specs.Found.{found-refusal, offset-refused}
+use Rattle.offsetting.specs.Found.{found-refusal, offset-refused, offset-moved}
 use Rattle.offsetting.proofs.Found.{answer, found-answer}
 
 -- what a test says of a bool that it negates
@@ -102,6 +102,10 @@ module _ (o : Outline) (outward : Bool) (d : Float) where
       go true h = ap (offset-from o outward d) (kept s h)
       go false h = ap (offset-from o outward d) (bared s h) ∙ bare-same s h
 
+  pub from-cleared : (s : Sweep) (a : Offset) → s ≡ cleared (sweep o outward d) → a ≡ offset-from o outward d s → a ≡ offset-moved o outward d
+  unfolding offset-moved
+  from-cleared s a e i = i ∙ ap (offset-from o outward d) e ∙ cleared-same (sweep o outward d)
+
   -- ---- 21, 13 and 14, and an offset by 0
   module _ (c r : Refusal) (e : c ≡ check-distance d) (f : r ≡ ask-ring (o .points) (o .count) c) (a : Offset) where
     asked : ask (proper 128 (o .points) (o .count)) (check-distance d) ≡ r
@@ -121,9 +125,9 @@ module _ (o : Outline) (outward : Bool) (d : Float) where
     unfolding offset offset-by
     unmoved h z i = rw (both h .0, both h .1, z) i
 
-    pub moved : (s : Sweep) → granted r ≡ true → eq d zero-float ≡ false → s ≡ cleared (sweep o outward d) → a ≡ offset-from o outward d s → a ≡ offset o outward d
-    unfolding offset offset-by
-    moved s h z i j = rw (both h .0, both h .1, z) (j ∙ ap (offset-from o outward d) i ∙ cleared-same (sweep o outward d))
+    pub moved : granted r ≡ true → eq d zero-float ≡ false → a ≡ offset-moved o outward d → a ≡ offset o outward d
+    unfolding offset offset-by offset-moved
+    moved h z i = rw (both h .0, both h .1, z) i
 
   -- ---- demand 3 of what is handed back
   pub demanded : (a : Offset) → a ≡ offset o outward d → proper 128 (o .points) (o .count) ≡ true → AnswerDemand (o .count) 1 (a .refusal) (a .collapses) (a .divides) (a .joins)

@@ -11,7 +11,7 @@ use Rattle.meet.specs.Meet.{rings-meet}
 use Rattle.polygon.specs.declared.Outline.{Outline}
 use Rattle.polygon.specs.Outlines.{no-outline}
 use Rattle.offset.specs.declared.Offset.{Offset}
-use Rattle.offset.specs.Offsets.{keeps-clear}
+use Rattle.offset.specs.Offsets.{keeps-clear, sweep, offset-from}
 
 -- an outline handed in: its numbers and its count
 unfoldable pub outline-of : List Float → ℕ → Outline
@@ -32,7 +32,15 @@ found-refusal o outward d tolerance u found q = cond (granted u) (cond found (cl
 unfoldable pub offset-refused : Refusal → ℕ → ℕ → ℕ → Offset
 offset-refused u collapses divides joins = record { refusal = u; shape = no-outline; collapses = collapses; divides = divides; joins = joins }
 
+-- the outline's front comes to the distance
+unfoldable pub offset-moved : Outline → Bool → Float → Offset
+offset-moved o outward d = offset-from o outward d (sweep o outward d)
+
+-- an answer in parts
+unfoldable pub answer-of : Refusal → List Float → ℕ → ℕ → ℕ → ℕ → Offset
+answer-of u ps n collapses divides joins = record { refusal = u; shape = outline-of ps n; collapses = collapses; divides = divides; joins = joins }
+
 -- opens every definition above, for a proof that computes with all of them
 unfoldable pub open-found : Unit {0}
-unfolding outline-of clear-refusal found-refusal offset-refused
+unfolding outline-of clear-refusal found-refusal offset-refused offset-moved answer-of
 open-found = tt

@@ -76,10 +76,20 @@ pub fn offset_refused(u: Refusal, collapses: usize, divides: usize, joins: usize
     }
 }
 
-// What the front that has come to the distance gives, and the events that the sweep completed.
-pub fn offset_from(ps: &[f64], n: usize, outward: bool, d: f64, s: Sweep) -> Offset
-    ensures { λ r. ⌜ r ≡ Offsets.offset-from (Found.outline-of (now (ps .entry)) n) outward d s ⌝ }
+// The front's work for an outline. A refused front is left out.
+pub fn sweep(ps: &[f64], n: usize, outward: bool, d: f64) -> Sweep
+    ensures { λ r. ⌜ r ≡ Acts.cleared (Offsets.sweep (Found.outline-of (now (ps .entry)) n) outward d) ⌝ }
 {
+    let origin = ring::vertex_at(ps, 0);
+    let loaded = loading::load_outer(ps, n, outward, origin, d);
+    advancing::advance(d, loaded)
+}
+
+// The outline's front comes to the distance: what it gives, and the events that the sweep completed.
+pub fn offset_moved(ps: &[f64], n: usize, outward: bool, d: f64) -> Offset
+    ensures { λ r. ⌜ r ≡ Found.offset-moved (Found.outline-of (now (ps .entry)) n) outward d ⌝ }
+{
+    let s = sweep(ps, n, outward, d);
     let refusal = s.refusal;
     if !refusal.granted() {
         return offset_refused(refusal, s.collapses, s.divides, s.joins);
@@ -90,7 +100,6 @@ pub fn offset_from(ps: &[f64], n: usize, outward: bool, d: f64, s: Sweep) -> Off
     let p = pieces::pieces(edges, origin, outward, d, tolerance);
     let found = p.found;
     let asked = p.refusal;
-    let q = p.shape;
     let u = found_refusal(
         ps,
         n,
@@ -99,28 +108,19 @@ pub fn offset_from(ps: &[f64], n: usize, outward: bool, d: f64, s: Sweep) -> Off
         tolerance,
         asked,
         found,
-        &q.points,
-        q.count,
+        &p.shape.points,
+        p.shape.count,
     );
     if !u.granted() {
         return offset_refused(u, s.collapses, s.divides, s.joins);
     }
     Offset {
         refusal: Refusal::Granted,
-        shape: q,
+        shape: p.shape,
         collapses: s.collapses,
         divides: s.divides,
         joins: s.joins,
     }
-}
-
-// The front's work for an outline. A refused front is left out.
-pub fn sweep(ps: &[f64], n: usize, outward: bool, d: f64) -> Sweep
-    ensures { λ r. ⌜ r ≡ Acts.cleared (Offsets.sweep (Found.outline-of (now (ps .entry)) n) outward d) ⌝ }
-{
-    let origin = ring::vertex_at(ps, 0);
-    let loaded = loading::load_outer(ps, n, outward, origin, d);
-    advancing::advance(d, loaded)
 }
 
 // An answer without a sweep.
@@ -147,8 +147,7 @@ pub fn offset(o: Outline, outward: bool, d: f64) -> Offset
     if d == 0.0 {
         return offset_plain(Refusal::Granted, o);
     }
-    let s = sweep(&o.points, o.count, outward, d);
-    offset_from(&o.points, o.count, outward, d, s)
+    offset_moved(&o.points, o.count, outward, d)
 }
 
 // The outline shrunk by a distance, with its completed events: demand 3's bounds hold of what is handed back.
@@ -168,14 +167,24 @@ pub fn outset(o: Outline, d: f64) -> Offset
 }
 
 // An answer's numbers to lent output: 20 is asked last.
-pub(crate) fn write_offset(a: Offset, out: &mut [f64]) -> OffsetWritten
-    requires { ⌜ a .shape .count ≤ 128 ⌝ }
-    ensures answered { λ r. ⌜ r ≡ Lent.offset-told a (Lent.write-offset a (now (out .entry))) ⌝ }
-    ensures written { λ _. ⌜ now (out .exit) ≡ Lent.offset-over a (now (out .entry)) ⌝ }
+pub(crate) fn write_offset<'a>(
+    given: Refusal,
+    ps: &'a [f64],
+    n: usize,
+    collapses: usize,
+    divides: usize,
+    joins: usize,
+    out: &'a mut [f64],
+) -> OffsetWritten
+    requires { ⌜ n ≤ 128 ⌝ }
+    ensures answered { λ r. ⌜
+        r ≡
+        Lent.offset-told (Found.answer-of given (now (ps .entry)) n collapses divides joins)
+        (Lent.write-offset (Found.answer-of given (now (ps .entry)) n collapses divides joins) (now (out .entry)))
+        ⌝ }
+    ensures written { λ _. ⌜ now (out .exit) ≡ Lent.offset-over (Found.answer-of given (now (ps .entry)) n collapses divides joins) (now (out .entry)) ⌝ }
 {
-    let given = a.refusal;
-    let shape = a.shape;
-    let needed = 2 * shape.count;
+    let needed = 2 * n;
     let asked = error::choose(
         needed <= out.len(),
         Refusal::Granted,
@@ -183,13 +192,13 @@ pub(crate) fn write_offset(a: Offset, out: &mut [f64]) -> OffsetWritten
     );
     let r = error::choose(given.granted(), asked, given);
     let granted = r.granted();
-    lent::write_numbers(&shape.points, ring::choose(granted, needed, 0), out);
+    lent::write_numbers(ps, ring::choose(granted, needed, 0), out);
     OffsetWritten {
         refusal: r,
-        count: ring::choose(granted, shape.count, 0),
-        collapses: a.collapses,
-        divides: a.divides,
-        joins: a.joins,
+        count: ring::choose(granted, n, 0),
+        collapses: collapses,
+        divides: divides,
+        joins: joins,
     }
 }
 
@@ -198,5 +207,15 @@ pub fn offset_into(o: Outline, outward: bool, d: f64, out: &mut [f64]) -> Offset
     ensures answered { λ r. ⌜ r ≡ Lent.offset-write o outward d (now (out .entry)) ⌝ }
     ensures written { λ _. ⌜ now (out .exit) ≡ Lent.written-offset o outward d (now (out .entry)) ⌝ }
 {
-    write_offset(offset(o, outward, d), out)
+    let a = offset(o, outward, d);
+    let given = a.refusal;
+    write_offset(
+        given,
+        &a.shape.points,
+        a.shape.count,
+        a.collapses,
+        a.divides,
+        a.joins,
+        out,
+    )
 }

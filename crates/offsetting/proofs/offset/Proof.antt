@@ -26,15 +26,12 @@ offset-plain-requires c κs = search needs
 returns-2 : tie.Need-returns-2
 returns-2 c = unmoved _ _ _ _ _ (c .before .before .before .before .before .check-distance .ensures) (c .before .before .before .before .ask-ring .ensures) _ (told-yes _ _ (c .before .before .before .granted .ensures) (c .before .before .if1 .left)) (c .before .if2 .taken) (c .offset-plain .ensures)
 
-sweep-requires : tie.Need-sweep-requires
-sweep-requires c κs = search needs
-
-offset-from-requires : tie.Need-offset-from-requires
-offset-from-requires c κs = search needs
+offset-moved-requires : tie.Need-offset-moved-requires
+offset-moved-requires c κs = search needs
 
 returns-3 : tie.Need-returns-3
 unfolding outline-of
-returns-3 c = moved _ _ _ _ _ (c .before .before .before .before .before .before .before .before .before .before .before .before .check-distance .ensures) (c .before .before .before .before .before .before .before .before .before .before .before .ask-ring .ensures) _ _ (told-yes _ _ (c .before .before .before .before .before .before .before .before .before .before .granted .ensures) (c .before .before .before .before .before .before .before .before .before .if1 .left)) (c .before .before .before .before .before .before .before .before .if2 .left) (c .before .before .before .before .sweep .ensures) (c .offset-from .ensures)
+returns-3 c = moved _ _ _ _ _ (c .before .before .before .before .before .before .before .before .check-distance .ensures) (c .before .before .before .before .before .before .before .ask-ring .ensures) _ (told-yes _ _ (c .before .before .before .before .before .before .granted .ensures) (c .before .before .before .before .before .if1 .left)) (c .before .before .before .before .if2 .left) (c .offset-moved .ensures)
 
 pub offset-spec : {M : Type 1} → statement M
 offset-spec =
@@ -47,6 +44,5 @@ offset-spec =
     returns
     offset-plain-requires
     returns-2
-    sweep-requires
-    offset-from-requires
+    offset-moved-requires
     returns-3)
