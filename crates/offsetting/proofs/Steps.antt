@@ -1,11 +1,10 @@
 -- An offset of an outline, step by step, as the code takes them. Assumes nothing.
 use Prim.Native.Nat.{ℕ}
 use mathlib.Core.Path.{_≡_, refl, sym, ap, _∙_, subst}
-use mathlib.Core.Bool.{Bool, true, false, false≢true, cond, not, _&&_}
-use mathlib.Core.List.{List}
+use mathlib.Core.Bool.{Bool, true, false, false≢true, cond, not}
 use lib.Ieee.{Float, eq}
 use Rattle.error.specs.declared.Refusal.{Refusal}
-use Rattle.error.specs.declared.Refusal.the-variants.{Granted, Shape, Splits, Collapses}
+use Rattle.error.specs.declared.Refusal.the-variants.{Granted, Shape}
 use Rattle.error.specs.Refusals.{values, number, granted}
 use Rattle.plane.specs.declared.PlanarPoint.{PlanarPoint}
 use Rattle.polygon.specs.declared.Outline.{Outline}
@@ -15,18 +14,17 @@ use Rattle.front.specs.declared.Sweep.{Sweep}
 use Rattle.advancing.specs.Acts.{cleared}
 use Rattle.offset.specs.declared.Offset.{Offset}
 use Rattle.offset.specs.declared.Pieces.{Pieces}
-use Rattle.math.specs.Number
 use Rattle.math.specs.Number.{zero-float}
 use Rattle.ring.specs.Ring.{vertex-at}
 use Rattle.measures.specs.Measures.{extent}
-use Rattle.meet.specs.Meet.{rings-meet}
 use Rattle.polygon.specs.Outlines.{no-outline, outline-refused, offset-tolerance, proper, ask, ask-ring}
 use Rattle.front.specs.Loading.{no-front, load-ring, loaded-nothing}
 use Rattle.front.specs.Sweeps.{offset-rings}
-use Rattle.offset.specs.Offsets
-use Rattle.offset.specs.Offsets.{check-distance, pieces, keeps-clear, offset-clear, offset-found, offset-finished, offset-swept, offset-counted, offset-plain, sweep, offset-from, offset-by, offset}
+use Rattle.offset.specs.Offsets.{check-distance, pieces, offset-finished, offset-swept, offset-counted, offset-plain, sweep, offset-from, offset-by, offset}
 use Rattle.offset.specs.Answers.{AnswerDemand}
 use Rattle.offset.proofs.Answers.{offset-demand}
+use Rattle.offsetting.specs.Found.{found-refusal, offset-refused, offset-moved}
+use Rattle.offsetting.proofs.Found.{answer, found-answer}
 
 -- what a test says of a bool that it negates
 pub told-no : (g h : Bool) → g ≡ h → not g ≡ true → h ≡ false
@@ -48,50 +46,30 @@ unfolding ask
 asked-no true c m h = rw h refl
 asked-no false c m h = refl
 
+pub refused-as : (u : Refusal) (c d j : ℕ) (q : Outline) → q ≡ no-outline → record { refusal = u; shape = q; collapses = c; divides = d; joins = j } ≡ offset-refused u c d j
+unfolding offset-refused
+refused-as u c d j q e = ap (λ (x : Outline). record { refusal = u; shape = x; collapses = c; divides = d; joins = j }) e
+
 module _ (o : Outline) (outward : Bool) (d : Float) where
-  -- ---- the piece that is left
-  module _ (tolerance : Float) where
-    pub clear-yes :
-        (q : Outline) (b : Bool) → b ≡ (keeps-clear outward (Number.sub d tolerance) (o .points) (o .count) (q .points) (q .count) && not (rings-meet (q .points) (q .count) (o .points) (o .count))) →
-        b ≡ true → record { refusal = Granted; shape = q } ≡ offset-clear o outward d tolerance q
-    unfolding offset-clear
-    clear-yes q b e h = rw (sym e ∙ h) refl
-
-    pub clear-no :
-        (q : Outline) (b : Bool) (a : NewOutline) → b ≡ (keeps-clear outward (Number.sub d tolerance) (o .points) (o .count) (q .points) (q .count) && not (rings-meet (q .points) (q .count) (o .points) (o .count))) →
-        b ≡ false → a ≡ outline-refused (Splits d) → a ≡ offset-clear o outward d tolerance q
-    unfolding offset-clear
-    clear-no q b a e h i = rw (sym e ∙ h) i
-
-    module _ (p : Pieces) (a : NewOutline) where
-      pub found-refused : granted (p .refusal) ≡ false → a ≡ outline-refused (p .refusal) → a ≡ offset-found o outward d tolerance p
-      unfolding offset-found
-      found-refused h i = rw h i
-
-      pub found-piece : granted (p .refusal) ≡ true → p .found ≡ true → a ≡ offset-clear o outward d tolerance (p .shape) → a ≡ offset-found o outward d tolerance p
-      unfolding offset-found
-      found-piece h f i = rw (h, f) i
-
-      pub found-none : granted (p .refusal) ≡ true → p .found ≡ false → a ≡ outline-refused (Collapses d) → a ≡ offset-found o outward d tolerance p
-      unfolding offset-found
-      found-none h f i = rw (h, f) i
-
   -- ---- the front at the distance
-  module _ (s : Sweep) (a : NewOutline) where
-    pub swept-yes :
-        (e t : Float) (v : PlanarPoint) (p : Pieces) → granted (s .refusal) ≡ true → e ≡ extent (o .points) (o .count) → t ≡ offset-tolerance d e → v ≡ vertex-at (o .points) 0 →
-        p ≡ pieces (s .edges) v outward d t → a ≡ offset-found o outward d t p → a ≡ offset-swept o outward d s
-    unfolding offset-swept offset-finished
-    swept-yes e t v p h i j k l m = rw h (m ∙ rw (l, j, i, k) refl)
+  module _ (s : Sweep) where
+    pub sweep-refused : (a : Offset) → granted (s .refusal) ≡ false → a ≡ offset-refused (s .refusal) (s .collapses) (s .divides) (s .joins) → a ≡ offset-from o outward d s
+    unfolding offset-from offset-counted offset-swept outline-refused offset-refused
+    sweep-refused a h e = rw h e
 
-    pub swept-no : granted (s .refusal) ≡ false → a ≡ outline-refused (s .refusal) → a ≡ offset-swept o outward d s
-    unfolding offset-swept
-    swept-no h i = rw h i
+    module _ (h : granted (s .refusal) ≡ true) (e t : Float) (v : PlanarPoint) (p : Pieces) (u : Refusal) (ee : e ≡ extent (o .points) (o .count)) (et : t ≡ offset-tolerance d e)
+        (ev : v ≡ vertex-at (o .points) 0) (ep : p ≡ pieces (s .edges) v outward d t) (eu : u ≡ found-refusal o outward d t (p .refusal) (p .found) (p .shape)) where
+      swept-is : offset-swept o outward d s ≡ answer u (p .shape)
+      unfolding offset-swept offset-finished
+      swept-is = rw (h, ← ee, ← et, ← ev, ← ep, eu) (found-answer o outward d t p)
 
-  pub counted : (s : Sweep) (a : NewOutline) → a ≡ offset-swept o outward d s →
-      record { refusal = a .refusal; shape = a .shape; collapses = s .collapses; divides = s .divides; joins = s .joins } ≡ offset-from o outward d s
-  unfolding offset-from offset-counted
-  counted s a e = ap (λ (x : NewOutline). offset-counted x s) e
+      pub from-refused : (a : Offset) → granted u ≡ false → a ≡ offset-refused u (s .collapses) (s .divides) (s .joins) → a ≡ offset-from o outward d s
+      unfolding offset-from offset-counted outline-refused offset-refused
+      from-refused a g i = i ∙ sym (ap (λ (x : NewOutline). offset-counted x s) (swept-is ∙ rw g refl))
+
+      pub from-granted : granted u ≡ true → record { refusal = Granted; shape = p .shape; collapses = s .collapses; divides = s .divides; joins = s .joins } ≡ offset-from o outward d s
+      unfolding offset-from offset-counted
+      from-granted g = sym (ap (λ (x : NewOutline). offset-counted x s) (swept-is ∙ rw g refl))
 
   pub swept-from : (v : PlanarPoint) (l : Loaded) (s : Sweep) → v ≡ vertex-at (o .points) 0 → l ≡ load-ring (o .points) (o .count) outward v d loaded-nothing → s ≡ cleared (offset-rings d l) → s ≡ cleared (sweep o outward d)
   unfolding sweep
@@ -124,16 +102,20 @@ module _ (o : Outline) (outward : Bool) (d : Float) where
       go true h = ap (offset-from o outward d) (kept s h)
       go false h = ap (offset-from o outward d) (bared s h) ∙ bare-same s h
 
+  pub from-cleared : (s : Sweep) (a : Offset) → s ≡ cleared (sweep o outward d) → a ≡ offset-from o outward d s → a ≡ offset-moved o outward d
+  unfolding offset-moved
+  from-cleared s a e i = i ∙ ap (offset-from o outward d) e ∙ cleared-same (sweep o outward d)
+
   -- ---- 21, 13 and 14, and an offset by 0
   module _ (c r : Refusal) (e : c ≡ check-distance d) (f : r ≡ ask-ring (o .points) (o .count) c) (a : Offset) where
     asked : ask (proper 128 (o .points) (o .count)) (check-distance d) ≡ r
     unfolding ask-ring
     asked = ap (ask (proper 128 (o .points) (o .count))) (sym e) ∙ sym f
 
-    pub plain : (n : Outline) → granted r ≡ false → n ≡ no-outline → a ≡ offset-plain r n → a ≡ offset o outward d
-    unfolding offset offset-by
-    plain n h i j =
-        j ∙ ap (offset-plain r) i ∙ ap (λ (x : Refusal). offset-plain x no-outline) (sym asked) ∙
+    pub plain : granted r ≡ false → a ≡ offset-refused r 0 0 0 → a ≡ offset o outward d
+    unfolding offset offset-by offset-refused offset-plain
+    plain h i =
+        i ∙ ap (λ (x : Refusal). offset-plain x no-outline) (sym asked) ∙
         asked-no (proper 128 (o .points) (o .count)) (check-distance d) (cond (eq d zero-float) (offset-plain Granted o) (offset-from o outward d (sweep o outward d))) (ap granted asked ∙ h)
 
     both : granted r ≡ true → (proper 128 (o .points) (o .count) ≡ true) × (granted (check-distance d) ≡ true)
@@ -143,9 +125,9 @@ module _ (o : Outline) (outward : Bool) (d : Float) where
     unfolding offset offset-by
     unmoved h z i = rw (both h .0, both h .1, z) i
 
-    pub moved : (s : Sweep) → granted r ≡ true → eq d zero-float ≡ false → s ≡ cleared (sweep o outward d) → a ≡ offset-from o outward d s → a ≡ offset o outward d
-    unfolding offset offset-by
-    moved s h z i j = rw (both h .0, both h .1, z) (j ∙ ap (offset-from o outward d) i ∙ cleared-same (sweep o outward d))
+    pub moved : granted r ≡ true → eq d zero-float ≡ false → a ≡ offset-moved o outward d → a ≡ offset o outward d
+    unfolding offset offset-by offset-moved
+    moved h z i = rw (both h .0, both h .1, z) i
 
   -- ---- demand 3 of what is handed back
   pub demanded : (a : Offset) → a ≡ offset o outward d → proper 128 (o .points) (o .count) ≡ true → AnswerDemand (o .count) 1 (a .refusal) (a .collapses) (a .divides) (a .joins)

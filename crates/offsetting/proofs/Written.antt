@@ -64,3 +64,13 @@ fits o outward d a e = subst (λ (x : Offset). x .shape .count ≤ 128) (sym e) 
     go : (b : Bool) → granted ((offset o outward d) .refusal) ≡ b → (offset o outward d) .shape .count ≤ 128
     go true h = few _ _ (offset-proper o outward d h)
     go false h = none _ (offset-empty o outward d h .count)
+
+-- ---- the offset's own answer, written
+module _ (o : Outline) (outward : Bool) (d : Float) (a : Offset) (e : a ≡ offset o outward d) (out : List Float) where
+  pub answered : (w : OffsetWritten) → w ≡ offset-told a (write-offset a out) → w ≡ offset-write o outward d out
+  unfolding offset-write
+  answered w i = i ∙ ap (λ (x : Offset). offset-told x (write-offset x out)) e
+
+  pub written : (w : List Float) → w ≡ offset-over a out → w ≡ written-offset o outward d out
+  unfolding written-offset
+  written w i = i ∙ ap (λ (x : Offset). offset-over x out) e

@@ -7,12 +7,11 @@ ghost use Rattle.advancing.specs.Acts;
 ghost use Rattle.offset.specs.Answers;
 ghost use Rattle.offset.specs.Lent;
 ghost use Rattle.offset.specs.Offsets;
+ghost use Rattle.offsetting.specs.Found;
 use error::Refusal;
 use front::Sweep;
 use offset::Offset;
 use offset::OffsetWritten;
-use offset::Pieces;
-use polygon::NewOutline;
 use polygon::Outline;
 use polygon::entry;
 use polygon::store;
@@ -36,81 +35,92 @@ pub fn offset_tolerance(d: f64, extent: f64) -> f64
     OFFSET_TOLERANCE * (1.0 + d + extent)
 }
 
-// The piece that is left keeps clear of the source.
-pub fn offset_clear(o: Outline, outward: bool, d: f64, tolerance: f64, q: Outline) -> NewOutline
-    ensures { λ r. ⌜ r ≡ Offsets.offset-clear o outward d tolerance q ⌝ }
+// What the pieces come to, q being the piece that is left: 16 where none is, and the last checks against the source.
+pub fn found_refusal<'a>(
+    ps: &'a [f64],
+    n: usize,
+    outward: bool,
+    d: f64,
+    tolerance: f64,
+    u: Refusal,
+    found: bool,
+    qs: &'a [f64],
+    m: usize,
+) -> Refusal
+    ensures { λ r. ⌜
+        r ≡
+        Found.found-refusal (Found.outline-of (now (ps .entry)) n) outward d tolerance u found
+        (Found.outline-of (now (qs .entry)) m)
+        ⌝ }
 {
-    if clear::stays_clear(
-        &o.points,
-        o.count,
-        &q.points,
-        q.count,
-        outward,
-        d - tolerance,
-    ) {
-        NewOutline {
-            refusal: Refusal::Granted,
-            shape: q,
-        }
-    } else {
-        store::refused(Refusal::Splits(d))
+    if !u.granted() {
+        return u;
     }
+    if !found {
+        return Refusal::Collapses(d);
+    }
+    let clear = clear::stays_clear(ps, n, qs, m, outward, d - tolerance);
+    error::choose(clear, Refusal::Granted, Refusal::Splits(d))
 }
 
-// What the pieces come to.
-pub fn offset_found(o: Outline, outward: bool, d: f64, tolerance: f64, p: Pieces) -> NewOutline
-    ensures { λ r. ⌜ r ≡ Offsets.offset-found o outward d tolerance p ⌝ }
+// An answer beside which the shape is empty, with the events that were completed before.
+pub fn offset_refused(u: Refusal, collapses: usize, divides: usize, joins: usize) -> Offset
+    ensures { λ r. ⌜ r ≡ Found.offset-refused u collapses divides joins ⌝ }
 {
-    let refusal = p.refusal;
-    if !refusal.granted() {
-        return store::refused(refusal);
-    }
-    if p.found {
-        let q = p.shape;
-        return offset_clear(o, outward, d, tolerance, q);
-    }
-    store::refused(Refusal::Collapses(d))
-}
-
-// What the front that has come to the distance gives.
-pub fn offset_swept(o: Outline, outward: bool, d: f64, s: Sweep) -> NewOutline
-    ensures { λ r. ⌜ r ≡ Offsets.offset-swept o outward d s ⌝ }
-{
-    let refusal = s.refusal;
-    if refusal.granted() {
-        let tolerance = offset_tolerance(d, measures::extent(&o.points, o.count));
-        let origin = ring::vertex_at(&o.points, 0);
-        let edges = s.edges;
-        let found = pieces::pieces(edges, origin, outward, d, tolerance);
-        offset_found(o, outward, d, tolerance, found)
-    } else {
-        store::refused(refusal)
-    }
-}
-
-// An answer and the events that the sweep completed.
-pub fn offset_from(o: Outline, outward: bool, d: f64, s: Sweep) -> Offset
-    ensures { λ r. ⌜ r ≡ Offsets.offset-from o outward d s ⌝ }
-{
-    let a = offset_swept(o, outward, d, s);
-    let refusal = a.refusal;
-    let shape = a.shape;
     Offset {
-        refusal: refusal,
-        shape: shape,
-        collapses: s.collapses,
-        divides: s.divides,
-        joins: s.joins,
+        refusal: u,
+        shape: store::no_outline(),
+        collapses: collapses,
+        divides: divides,
+        joins: joins,
     }
 }
 
 // The front's work for an outline. A refused front is left out.
-pub fn sweep(o: Outline, outward: bool, d: f64) -> Sweep
-    ensures { λ r. ⌜ r ≡ Acts.cleared (Offsets.sweep o outward d) ⌝ }
+pub fn sweep(ps: &[f64], n: usize, outward: bool, d: f64) -> Sweep
+    ensures { λ r. ⌜ r ≡ Acts.cleared (Offsets.sweep (Found.outline-of (now (ps .entry)) n) outward d) ⌝ }
 {
-    let origin = ring::vertex_at(&o.points, 0);
-    let loaded = loading::load_outer(&o.points, o.count, outward, origin, d);
+    let origin = ring::vertex_at(ps, 0);
+    let loaded = loading::load_outer(ps, n, outward, origin, d);
     advancing::advance(d, loaded)
+}
+
+// The outline's front comes to the distance: what it gives, and the events that the sweep completed.
+pub fn offset_moved(ps: &[f64], n: usize, outward: bool, d: f64) -> Offset
+    ensures { λ r. ⌜ r ≡ Found.offset-moved (Found.outline-of (now (ps .entry)) n) outward d ⌝ }
+{
+    let s = sweep(ps, n, outward, d);
+    let refusal = s.refusal;
+    if !refusal.granted() {
+        return offset_refused(refusal, s.collapses, s.divides, s.joins);
+    }
+    let tolerance = offset_tolerance(d, measures::extent(ps, n));
+    let origin = ring::vertex_at(ps, 0);
+    let edges = s.edges;
+    let p = pieces::pieces(edges, origin, outward, d, tolerance);
+    let found = p.found;
+    let asked = p.refusal;
+    let u = found_refusal(
+        ps,
+        n,
+        outward,
+        d,
+        tolerance,
+        asked,
+        found,
+        &p.shape.points,
+        p.shape.count,
+    );
+    if !u.granted() {
+        return offset_refused(u, s.collapses, s.divides, s.joins);
+    }
+    Offset {
+        refusal: Refusal::Granted,
+        shape: p.shape,
+        collapses: s.collapses,
+        divides: s.divides,
+        joins: s.joins,
+    }
 }
 
 // An answer without a sweep.
@@ -132,12 +142,12 @@ pub fn offset(o: Outline, outward: bool, d: f64) -> Offset
 {
     let r = entry::ask_ring(&o.points, o.count, check_distance(d));
     if !r.granted() {
-        return offset_plain(r, store::no_outline());
+        return offset_refused(r, 0, 0, 0);
     }
     if d == 0.0 {
         return offset_plain(Refusal::Granted, o);
     }
-    offset_from(o, outward, d, sweep(o, outward, d))
+    offset_moved(&o.points, o.count, outward, d)
 }
 
 // The outline shrunk by a distance, with its completed events: demand 3's bounds hold of what is handed back.
@@ -157,14 +167,24 @@ pub fn outset(o: Outline, d: f64) -> Offset
 }
 
 // An answer's numbers to lent output: 20 is asked last.
-pub(crate) fn write_offset(a: Offset, out: &mut [f64]) -> OffsetWritten
-    requires { ⌜ a .shape .count ≤ 128 ⌝ }
-    ensures answered { λ r. ⌜ r ≡ Lent.offset-told a (Lent.write-offset a (now (out .entry))) ⌝ }
-    ensures written { λ _. ⌜ now (out .exit) ≡ Lent.offset-over a (now (out .entry)) ⌝ }
+pub(crate) fn write_offset<'a>(
+    given: Refusal,
+    ps: &'a [f64],
+    n: usize,
+    collapses: usize,
+    divides: usize,
+    joins: usize,
+    out: &'a mut [f64],
+) -> OffsetWritten
+    requires { ⌜ n ≤ 128 ⌝ }
+    ensures answered { λ r. ⌜
+        r ≡
+        Lent.offset-told (Found.answer-of given (now (ps .entry)) n collapses divides joins)
+        (Lent.write-offset (Found.answer-of given (now (ps .entry)) n collapses divides joins) (now (out .entry)))
+        ⌝ }
+    ensures written { λ _. ⌜ now (out .exit) ≡ Lent.offset-over (Found.answer-of given (now (ps .entry)) n collapses divides joins) (now (out .entry)) ⌝ }
 {
-    let given = a.refusal;
-    let shape = a.shape;
-    let needed = 2 * shape.count;
+    let needed = 2 * n;
     let asked = error::choose(
         needed <= out.len(),
         Refusal::Granted,
@@ -172,13 +192,13 @@ pub(crate) fn write_offset(a: Offset, out: &mut [f64]) -> OffsetWritten
     );
     let r = error::choose(given.granted(), asked, given);
     let granted = r.granted();
-    lent::write_numbers(&shape.points, ring::choose(granted, needed, 0), out);
+    lent::write_numbers(ps, ring::choose(granted, needed, 0), out);
     OffsetWritten {
         refusal: r,
-        count: ring::choose(granted, shape.count, 0),
-        collapses: a.collapses,
-        divides: a.divides,
-        joins: a.joins,
+        count: ring::choose(granted, n, 0),
+        collapses: collapses,
+        divides: divides,
+        joins: joins,
     }
 }
 
@@ -187,5 +207,15 @@ pub fn offset_into(o: Outline, outward: bool, d: f64, out: &mut [f64]) -> Offset
     ensures answered { λ r. ⌜ r ≡ Lent.offset-write o outward d (now (out .entry)) ⌝ }
     ensures written { λ _. ⌜ now (out .exit) ≡ Lent.written-offset o outward d (now (out .entry)) ⌝ }
 {
-    write_offset(offset(o, outward, d), out)
+    let a = offset(o, outward, d);
+    let given = a.refusal;
+    write_offset(
+        given,
+        &a.shape.points,
+        a.shape.count,
+        a.collapses,
+        a.divides,
+        a.joins,
+        out,
+    )
 }

@@ -1,4 +1,5 @@
 -- `offsetting::offset` meets its contract. Assumes nothing.
+use Rattle.offsetting.specs.Found.{outline-of}
 use Rattle.offsetting.proofs.Steps.{told-no, told-yes, plain, unmoved, moved}
 use borrow.Author.Needs.{needs}
 use Rattle.offsetting.proofs.offset.Statement.{statement}
@@ -13,29 +14,24 @@ ask-ring-requires c κs = search needs
 granted-requires : tie.Need-granted-requires
 granted-requires c κs = search needs
 
-no-outline-requires : tie.Need-no-outline-requires
-no-outline-requires c κs = search needs
+offset-refused-requires : tie.Need-offset-refused-requires
+offset-refused-requires c κs = search needs
+
+returns : tie.Need-returns
+returns c = plain _ _ _ _ _ (c .before .before .before .before .check-distance .ensures) (c .before .before .before .ask-ring .ensures) _ (told-no _ _ (c .before .before .granted .ensures) (c .before .if1 .taken)) (c .offset-refused .ensures)
 
 offset-plain-requires : tie.Need-offset-plain-requires
 offset-plain-requires c κs = search needs
 
-returns : tie.Need-returns
-returns c = plain _ _ _ _ _ (c .before .before .before .before .before .check-distance .ensures) (c .before .before .before .before .ask-ring .ensures) _ _ (told-no _ _ (c .before .before .before .granted .ensures) (c .before .before .if1 .taken)) (c .before .no-outline .ensures) (c .offset-plain .ensures)
-
-offset-plain-requires-2 : tie.Need-offset-plain-requires-2
-offset-plain-requires-2 c κs = search needs
-
 returns-2 : tie.Need-returns-2
-returns-2 c = unmoved _ _ _ _ _ (c .before .before .before .before .before .check-distance .ensures) (c .before .before .before .before .ask-ring .ensures) _ (told-yes _ _ (c .before .before .before .granted .ensures) (c .before .before .if1 .left)) (c .before .if2 .taken) (c .offset-plain2 .ensures)
+returns-2 c = unmoved _ _ _ _ _ (c .before .before .before .before .before .check-distance .ensures) (c .before .before .before .before .ask-ring .ensures) _ (told-yes _ _ (c .before .before .before .granted .ensures) (c .before .before .if1 .left)) (c .before .if2 .taken) (c .offset-plain .ensures)
 
-sweep-requires : tie.Need-sweep-requires
-sweep-requires c κs = search needs
-
-offset-from-requires : tie.Need-offset-from-requires
-offset-from-requires c κs = search needs
+offset-moved-requires : tie.Need-offset-moved-requires
+offset-moved-requires c κs = search needs
 
 returns-3 : tie.Need-returns-3
-returns-3 c = moved _ _ _ _ _ (c .before .before .before .before .before .before .check-distance .ensures) (c .before .before .before .before .before .ask-ring .ensures) _ _ (told-yes _ _ (c .before .before .before .before .granted .ensures) (c .before .before .before .if1 .left)) (c .before .before .if2 .left) (c .before .sweep .ensures) (c .offset-from .ensures)
+unfolding outline-of
+returns-3 c = moved _ _ _ _ _ (c .before .before .before .before .before .before .before .before .check-distance .ensures) (c .before .before .before .before .before .before .before .ask-ring .ensures) _ (told-yes _ _ (c .before .before .before .before .before .before .granted .ensures) (c .before .before .before .before .before .if1 .left)) (c .before .before .before .before .if2 .left) (c .offset-moved .ensures)
 
 pub offset-spec : {M : Type 1} → statement M
 offset-spec =
@@ -44,11 +40,9 @@ offset-spec =
     check-distance-requires
     ask-ring-requires
     granted-requires
-    no-outline-requires
-    offset-plain-requires
+    offset-refused-requires
     returns
-    offset-plain-requires-2
+    offset-plain-requires
     returns-2
-    sweep-requires
-    offset-from-requires
+    offset-moved-requires
     returns-3)

@@ -1,4 +1,5 @@
 -- `offsetting::sweep` meets its contract. Assumes nothing.
+use Rattle.offsetting.specs.Found.{outline-of}
 use Rattle.offsetting.proofs.Steps.{swept-from}
 use borrow.Author.Needs.{needs}
 use Rattle.offsetting.proofs.sweep.Statement.{statement}
@@ -14,7 +15,8 @@ advance-requires : tie.Need-advance-requires
 advance-requires c κs = search needs
 
 returns : tie.Need-returns
-returns c = swept-from _ _ _ _ _ _ (c .before .before .before .before .before .vertex-at .ensures) (c .before .load-outer .ensures) (c .advance .ensures)
+unfolding outline-of
+returns c = swept-from _ _ _ _ _ _ (c .before .before .vertex-at .ensures) (c .before .load-outer .ensures) (c .advance .ensures)
 
 pub sweep-spec : {M : Type 1} → statement M
 sweep-spec =

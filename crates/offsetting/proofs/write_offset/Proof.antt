@@ -1,4 +1,5 @@
 -- `offsetting::write_offset` meets its contract. Assumes nothing.
+use Rattle.offsetting.specs.Found.{answer-of, outline-of}
 use Rattle.offsetting.proofs.Written.{told, over}
 use borrow.Author.Needs.{needs}
 use Rattle.offsetting.proofs.write_offset.Statement.{statement}
@@ -33,7 +34,8 @@ same-length : tie.Need-same-length
 same-length c = search needs
 
 returns : tie.Need-returns
-returns c = (told _ _ _ _ _ _ _ (c .before .before .before .before .before .before .before .before .before .before .before .granted .ensures) (c .before .before .before .before .before .before .before .before .before .before .before .before .choose .ensures) (c .before .before .before .before .before .before .before .before .before .before .choose2 .ensures) (c .before .before .before .before .before .before .before .before .before .granted2 .ensures) (c .choose4 .ensures), over _ _ _ _ _ _ _ _ (c .before .before .before .before .before .before .before .before .before .before .before .granted .ensures) (c .before .before .before .before .before .before .before .before .before .before .before .before .choose .ensures) (c .before .before .before .before .before .before .before .before .before .before .choose2 .ensures) (c .before .before .before .before .before .before .before .before .before .granted2 .ensures) (c .before .before .before .before .before .choose3 .ensures) (c .before .before .before .write-numbers .ensures))
+unfolding answer-of outline-of
+returns c = (told _ _ _ _ _ _ _ (c .before .before .before .before .before .before .before .before .granted .ensures) (c .before .before .before .before .before .before .before .before .before .choose .ensures) (c .before .before .before .before .before .before .before .choose2 .ensures) (c .before .before .before .before .before .before .granted2 .ensures) (c .choose4 .ensures), over _ _ _ _ _ _ _ _ (c .before .before .before .before .before .before .before .before .granted .ensures) (c .before .before .before .before .before .before .before .before .before .choose .ensures) (c .before .before .before .before .before .before .before .choose2 .ensures) (c .before .before .before .before .before .before .granted2 .ensures) (c .before .before .before .before .before .choose3 .ensures) (c .before .before .before .write-numbers .ensures))
 
 pub write-offset-spec : {M : Type 1} → statement M
 write-offset-spec =
