@@ -71,7 +71,7 @@ module _ (o : Outline) (outward : Bool) (d : Float) where
       unfolding offset-from offset-counted
       from-granted g = sym (ap (λ (x : NewOutline). offset-counted x s) (swept-is ∙ rw g refl))
 
-  pub swept-from : (v : PlanarPoint) (l : Loaded) (s : Sweep) → v ≡ vertex-at (o .points) 0 → l ≡ load-ring (o .points) (o .count) outward v d loaded-nothing → s ≡ cleared (offset-rings d l) → s ≡ cleared (sweep o outward d)
+  swept-from : (v : PlanarPoint) (l : Loaded) (s : Sweep) → v ≡ vertex-at (o .points) 0 → l ≡ load-ring (o .points) (o .count) outward v d loaded-nothing → s ≡ cleared (offset-rings d l) → s ≡ cleared (sweep o outward d)
   unfolding sweep
   swept-from v l s e f g = g ∙ rw (f, e) refl
 
@@ -102,9 +102,11 @@ module _ (o : Outline) (outward : Bool) (d : Float) where
       go true h = ap (offset-from o outward d) (kept s h)
       go false h = ap (offset-from o outward d) (bared s h) ∙ bare-same s h
 
-  pub from-cleared : (s : Sweep) (a : Offset) → s ≡ cleared (sweep o outward d) → a ≡ offset-from o outward d s → a ≡ offset-moved o outward d
+  pub from-front :
+      (v : PlanarPoint) (l : Loaded) (s : Sweep) → v ≡ vertex-at (o .points) 0 → l ≡ load-ring (o .points) (o .count) outward v d loaded-nothing → s ≡ cleared (offset-rings d l) →
+      (a : Offset) → a ≡ offset-from o outward d s → a ≡ offset-moved o outward d
   unfolding offset-moved
-  from-cleared s a e i = i ∙ ap (offset-from o outward d) e ∙ cleared-same (sweep o outward d)
+  from-front v l s e f g a i = i ∙ ap (offset-from o outward d) (swept-from v l s e f g) ∙ cleared-same (sweep o outward d)
 
   -- ---- 21, 13 and 14, and an offset by 0
   module _ (c r : Refusal) (e : c ≡ check-distance d) (f : r ≡ ask-ring (o .points) (o .count) c) (a : Offset) where

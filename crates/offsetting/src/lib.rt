@@ -3,13 +3,11 @@ ghost use mathlib.Core.Path.{_≡_};
 ghost use mathlib.Core.Bool.{true};
 ghost use Prim.Native.Nat.{_≤_};
 ghost use Rattle.polygon.specs.Outlines;
-ghost use Rattle.advancing.specs.Acts;
 ghost use Rattle.offset.specs.Answers;
 ghost use Rattle.offset.specs.Lent;
 ghost use Rattle.offset.specs.Offsets;
 ghost use Rattle.offsetting.specs.Found;
 use error::Refusal;
-use front::Sweep;
 use offset::Offset;
 use offset::OffsetWritten;
 use polygon::Outline;
@@ -76,26 +74,18 @@ pub fn offset_refused(u: Refusal, collapses: usize, divides: usize, joins: usize
     }
 }
 
-// The front's work for an outline. A refused front is left out.
-pub fn sweep(ps: &[f64], n: usize, outward: bool, d: f64) -> Sweep
-    ensures { λ r. ⌜ r ≡ Acts.cleared (Offsets.sweep (Found.outline-of (now (ps .entry)) n) outward d) ⌝ }
-{
-    let origin = ring::vertex_at(ps, 0);
-    let loaded = loading::load_outer(ps, n, outward, origin, d);
-    advancing::advance(d, loaded)
-}
-
 // The outline's front comes to the distance: what it gives, and the events that the sweep completed.
 pub fn offset_moved(ps: &[f64], n: usize, outward: bool, d: f64) -> Offset
     ensures { λ r. ⌜ r ≡ Found.offset-moved (Found.outline-of (now (ps .entry)) n) outward d ⌝ }
 {
-    let s = sweep(ps, n, outward, d);
+    let origin = ring::vertex_at(ps, 0);
+    let loaded = loading::load_outer(ps, n, outward, origin, d);
+    let s = advancing::advance(d, loaded);
     let refusal = s.refusal;
     if !refusal.granted() {
         return offset_refused(refusal, s.collapses, s.divides, s.joins);
     }
     let tolerance = offset_tolerance(d, measures::extent(ps, n));
-    let origin = ring::vertex_at(ps, 0);
     let edges = s.edges;
     let p = pieces::pieces(edges, origin, outward, d, tolerance);
     let found = p.found;
