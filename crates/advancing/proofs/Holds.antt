@@ -259,11 +259,10 @@ module _ (d : Float) (f₀ : List Edge) (t₀ : Float) where
       planned false e q = ap (plan-of d t) q
 
       pub turn-holds :
-          (x y : Tidy) (b : Bool) (e : Event) (a : Act) → y ≡ find-tidy f t → x ≡ cond (ltb m 129) y Settled → b ≡ settled x →
+          (x : Tidy) (b : Bool) (e : Event) (a : Act) → x ≡ cond (ltb m 129) (find-tidy f t) Settled → b ≡ settled x →
           e ≡ cond b (next-event f t) Never → a ≡ act-of t x (plan-of d t e) → Holds a
-      turn-holds x y b e a i h u q g =
-          subst Holds (sym g)
-          (act-holds x (h ∙ ap (λ (z : Tidy). cond (ltb m 129) z Settled) i) (plan-of d t e) (planned b e q ∙ ap (λ (z : Bool). cond z (plan-of d t (next-event f t)) End) u))
+      turn-holds x b e a h u q g =
+          subst Holds (sym g) (act-holds x h (plan-of d t e) (planned b e q ∙ ap (λ (z : Bool). cond z (plan-of d t (next-event f t)) End) u))
 
     -- ---- what an act makes of the front, by the act
 

@@ -1,3 +1,4 @@
 pub mod Turns
 pub mod Loop
 pub mod Holds
+pub mod Sought

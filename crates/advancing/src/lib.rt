@@ -1,13 +1,11 @@
 // The main loop of an offset on one array: a front is tidied and its edges collapse where they are, and it is copied only where it splits.
 ghost use mathlib.Core.Path.{_≡_};
 ghost use mathlib.Core.Bool.{cond};
-ghost use lib.Dec.{ltb};
 ghost use lib.Ieee.{le};
 ghost use lib.ListN.{length};
 ghost use Rattle.front.specs.Sweeps;
 ghost use Rattle.advancing.specs.Turning;
 ghost use Rattle.advancing.specs.declared.Plan.the-variants.{End};
-ghost use Rattle.front.specs.declared.Tidy.the-variants.{Settled};
 ghost use Rattle.advancing.specs.Acts;
 use error::Refusal;
 use front::Edge;
@@ -78,13 +76,6 @@ pub fn act_by(p: Plan) -> Act
     }
 }
 
-// Tidying ends after 129 steps, whatever is found.
-pub fn in_steps(m: usize, found: Tidy) -> Tidy
-    ensures { λ r. ⌜ r ≡ cond (ltb m 129) found Settled ⌝ }
-{
-    if m < 129 { found } else { Tidy::Settled }
-}
-
 // What is done, by what tidying finds, or else by the event.
 pub fn act_of(d: f64, travelled: f64, found: Tidy, e: Event) -> Act
     ensures { λ r. ⌜ r ≡ Acts.act-of travelled found (Turning.plan-of d travelled e) ⌝ }
@@ -124,7 +115,27 @@ pub fn advance(d: f64, l: Loaded) -> Sweep
     while k < 387 {
         // what it ensures is used: a store out of the front is left out
         let room = slots(edges);
-        let found = in_steps(m, tidying::find_tidy(edges, travelled));
+        // the first live slot at which something is to be taken out, and what; tidying ends after 129 steps
+        let mut found = Tidy::Settled;
+        let mut i = ring::choose(m < 129, 0, 128);
+        while i < 128 {
+            let slot = i;
+            i += 1;
+            let e = edges[slot];
+            if e.alive {
+                let previous = e.previous;
+                let next = e.next;
+                let before = lines::edge_or(previous < 128, edges[edges::within(previous)]);
+                let after = lines::edge_or(next < 128, edges[edges::within(next)]);
+                let back = after.previous;
+                let beside = lines::edge_or(back < 128, edges[edges::within(back)]);
+                let here = tidying::tidy_between(slot, travelled, before, e, beside, after);
+                if !tidying::settled(here) {
+                    found = here;
+                    i = 128;
+                }
+            }
+        }
         let event = events::next_event(tidying::settled(found), edges, travelled);
         let act = act_of(d, travelled, found, event);
         match act {

@@ -93,31 +93,6 @@ pub fn settled(found: Tidy) -> bool
     }
 }
 
-// The first live slot at which something is to be taken out, and what.
-pub fn find_tidy(edges: [Edge; 128], t: f64) -> Tidy
-    ensures { λ r. ⌜ r ≡ Tidying.find-tidy edges t ⌝ }
-{
-    let mut k = 0usize;
-    while k < 128 {
-        let slot = k;
-        k += 1;
-        let e = edges[slot];
-        if e.alive {
-            let previous = e.previous;
-            let next = e.next;
-            let before = lines::edge_or(previous < 128, edges[edges::within(previous)]);
-            let after = lines::edge_or(next < 128, edges[edges::within(next)]);
-            let back = after.previous;
-            let beside = lines::edge_or(back < 128, edges[edges::within(back)]);
-            let found = tidy_between(slot, t, before, e, beside, after);
-            if !settled(found) {
-                return found;
-            }
-        }
-    }
-    Tidy::Settled
-}
-
 // A ring too small is dropped whole, from its slot on: the walk ends where it comes round or meets a dead edge.
 pub fn drop_ring(edges: [Edge; 128], slot: usize) -> [Edge; 128]
     ensures { λ r. ⌜ r ≡ Tidying.drop-ring edges slot ⌝ }
