@@ -662,7 +662,7 @@ fn the_replay_is_to_count_the_stored_list() {
     let total: usize = counts.iter().sum();
     let rows = NAMES.into_iter().zip(counts);
     let rows = rows.chain([("unread", 0), ("total", total)]);
-    let rows = rows.map(|(name, count)| format!("{name} {count} compared, 0 differ\n"));
+    let rows = rows.map(|(name, count)| format!("{name:<9} {count} compared, 0 differ\n"));
     assert_eq!(rows.collect::<String>(), of_replay("stdout"));
 }
 
@@ -672,4 +672,6 @@ fn the_stored_list_fits_the_replay() {
         let fields = 2 + question.answer().len() + question.fields().len();
         assert!(fields <= 1100, "{fields}");
     }
+    let bytes = of_replay("stdin").len();
+    assert!(bytes < 4_194_304, "{bytes}");
 }

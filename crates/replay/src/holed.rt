@@ -3,9 +3,10 @@ use crate::kinds;
 use crate::parts;
 use crate::shapes;
 use plane::PlanarPoint;
+use region::InsetWritten;
 use region::NewRegion;
 use region::Region;
-use region::RegionOffset;
+use region::RegionWritten;
 
 // The place n after another; one past any line where that is too far.
 fn after(at: usize, n: usize) -> usize {
@@ -47,68 +48,35 @@ fn made<'a>(words: &'a [u64], numbers: &'a [f64]) -> NewRegion {
     regions::new(lengths_from(&lengths, 0, rings), rest)
 }
 
-// The numbers of a ring are in the first fields.
-fn ring_is<'a>(answer: &'a [u64], ps: &'a [f64], n: usize) -> bool {
-    let stored = parts::fields_from(answer, 0, parts::twice(n));
-    parts::floats_are(stored, ps) & (stored.len() == parts::twice(n))
-}
-
-// The fields are the first counts.
-fn counts_are<'a>(answer: &'a [u64], counts: &'a [usize]) -> bool {
-    let mut same = answer.len() == 8;
+// Rings and the count of each are in the first ten fields, 0 where there is no region, and the numbers in the rest.
+fn rings_are<'a>(answer: &'a [u64], rings: usize, counts: &'a [usize], ps: &'a [f64]) -> bool {
+    let mut same = parts::whole_is(answer, 0, rings);
+    let mut end = 10usize;
     let mut k = 0usize;
-    while k < 8 {
-        same = same & parts::whole_is(answer, k, holes::count_at(counts, k));
+    while k < 9 {
+        let n = holes::count_at(counts, k);
         k += 1;
+        same = same & parts::whole_is(answer, k, n);
+        end = after(end, parts::twice(n));
     }
     same
+        & (answer.len() == end)
+        & parts::floats_are(parts::fields_from(answer, 10, answer.len()), ps)
 }
 
-// The numbers of the holes are in the fields, one hole after the other.
-fn holes_are<'a>(answer: &'a [u64], points: &'a [f64], counts: &'a [usize]) -> bool {
-    let mut same = true;
-    let mut at = 0usize;
-    let mut k = 0usize;
-    while k < 8 {
-        let n = holes::count_at(counts, k);
-        let rest = parts::fields_from(answer, at, answer.len());
-        same = same & ring_is(rest, holes::hole_points(points, k), n);
-        at = after(at, parts::twice(n));
-        k += 1;
-    }
-    same & (at == answer.len())
+fn written_is<'a>(answer: &'a [u64], w: RegionWritten, ps: &'a [f64]) -> bool {
+    let counts = w.counts;
+    rings_are(answer, w.rings, &counts, ps)
 }
 
-fn rings_of(n: usize, h: usize) -> usize {
-    if n == 0 {
-        return h;
-    }
-    if h <= 8 { h + 1 } else { 0 }
-}
-
-// Rings, the count of the outer one, and its numbers after the nine counts; 0 where there is no region.
-fn outer_is(answer: &[u64], shape: Region) -> bool {
-    let outer = shape.outer;
-    let n = outer.count;
+fn shape_is(answer: &[u64], r: Region) -> bool {
+    let outer = r.outer;
     let ring = outer.points;
-    let rest = parts::fields_from(answer, 10, answer.len());
-    parts::whole_is(answer, 0, rings_of(n, shape.holes))
-        & parts::whole_is(answer, 1, n)
-        & ring_is(rest, &ring, n)
-}
-
-// The counts of the holes, and their numbers after those of the outer ring.
-fn inner_is(answer: &[u64], shape: Region) -> bool {
-    let points = shape.points;
-    let counts = shape.counts;
-    let outer = shape.outer;
-    let first = after(10, parts::twice(outer.count));
-    let rest = parts::fields_from(answer, first, answer.len());
-    holes_are(rest, &points, &counts) & counts_are(parts::fields_from(answer, 2, 10), &counts)
-}
-
-fn shape_is(answer: &[u64], shape: Region) -> bool {
-    outer_is(answer, shape) & inner_is(answer, shape)
+    let points = r.points;
+    let counts = r.counts;
+    let mut out = [0.0; 768];
+    let w = regionlent::write_region(&ring, outer.count, &points, &counts, r.holes, &mut out);
+    written_is(answer, w, &out)
 }
 
 // What a refusal carries is in the first five fields, the region in the rest.
@@ -121,15 +89,13 @@ pub(crate) fn region<'a>(answer: &'a [u64], words: &'a [u64], numbers: &'a [f64]
 }
 
 // The completed events are in the three fields before the region.
-fn inset_is(answer: &[u64], made: RegionOffset) -> bool {
-    let refusal = made.refusal;
-    let shape = made.shape;
+fn inset_is<'a>(answer: &'a [u64], w: InsetWritten, ps: &'a [f64]) -> bool {
+    let counts = w.counts;
     let rest = parts::fields_from(answer, 8, answer.len());
-    kinds::carried_is(answer, refusal)
-        & parts::whole_is(answer, 5, made.collapses)
-        & parts::whole_is(answer, 6, made.divides)
-        & parts::whole_is(answer, 7, made.joins)
-        & shape_is(rest, shape)
+    parts::whole_is(answer, 5, w.collapses)
+        & parts::whole_is(answer, 6, w.divides)
+        & parts::whole_is(answer, 7, w.joins)
+        & rings_are(rest, w.rings, &counts, ps)
 }
 
 // Before the region stands the distance. A region that is refused has no inset.
@@ -140,19 +106,11 @@ pub(crate) fn inset<'a>(answer: &'a [u64], words: &'a [u64], numbers: &'a [f64])
     );
     let refusal = made.refusal;
     let shape = made.shape;
-    if refusal.granted() {
-        return inset_is(answer, insetting::inset(shape, ring::number_at(numbers, 0)));
-    }
-    inset_is(
-        answer,
-        RegionOffset {
-            refusal: refusal,
-            shape: shape,
-            collapses: 0,
-            divides: 0,
-            joins: 0,
-        },
-    )
+    let mut out = [0.0; 768];
+    let w = insetwrite::inset_into(shape, ring::number_at(numbers, 0), &mut out);
+    let of_inset = w.refusal;
+    let told = error::choose(refusal.granted(), of_inset, refusal);
+    kinds::carried_is(answer, told) & inset_is(answer, w, &out)
 }
 
 // One field of a region put in place of another; see the list of fields in oracle/src/regions.rs.
@@ -190,66 +148,59 @@ fn changed(r: Region, place: u64, value: usize, x: f64) -> Region {
     }
 }
 
-// Where a point lies.
-fn place_is(answer: &[u64], r: Region, p: PlanarPoint) -> bool {
-    let outer = r.outer;
-    let ring = outer.points;
-    let points = r.points;
-    let counts = r.counts;
-    let placed = regionqueries::contains(&ring, outer.count, &points, &counts, r.holes, p);
-    let refusal = placed.refusal;
+// Where a point lies, how far it is from the boundary, and the nearest point there.
+fn place_is<'a>(
+    answer: &'a [u64],
+    ring: &'a [f64],
+    n: usize,
+    points: &'a [f64],
+    counts: &'a [usize],
+    h: usize,
+    p: PlanarPoint,
+) -> bool {
+    let placed = regionqueries::contains(ring, n, points, counts, h, p);
+    let far = regionqueries::distance_to_boundary(ring, n, points, counts, h, p);
+    let foot = regionqueries::closest_boundary_point(ring, n, points, counts, h, p);
+    let of_place = placed.refusal;
+    let of_far = far.refusal;
+    let of_foot = foot.refusal;
     let place = placed.place;
-    kinds::number_is(answer, 0, refusal) & parts::whole_is(answer, 2, shapes::place(place))
-}
-
-// How far it is from the boundary.
-fn gap_is(answer: &[u64], r: Region, p: PlanarPoint) -> bool {
-    let outer = r.outer;
-    let ring = outer.points;
-    let points = r.points;
-    let counts = r.counts;
-    let far = regionqueries::distance_to_boundary(&ring, outer.count, &points, &counts, r.holes, p);
-    let refusal = far.refusal;
-    kinds::number_is(answer, 0, refusal) & parts::float_is(answer, 3, far.value)
-}
-
-// The nearest point of the boundary.
-fn foot_is(answer: &[u64], r: Region, p: PlanarPoint) -> bool {
-    let outer = r.outer;
-    let ring = outer.points;
-    let points = r.points;
-    let counts = r.counts;
-    let foot = regionqueries::closest_boundary_point(
-        &ring,
-        outer.count,
-        &points,
-        &counts,
-        r.holes,
-        p,
-    );
-    let refusal = foot.refusal;
     let point = foot.point;
-    kinds::number_is(answer, 0, refusal) & shapes::point_is(answer, 4, point)
+    kinds::number_is(answer, 0, of_place)
+        & kinds::number_is(answer, 0, of_far)
+        & kinds::number_is(answer, 0, of_foot)
+        & parts::whole_is(answer, 2, shapes::place(place))
+        & parts::float_is(answer, 3, far.value)
+        & shapes::point_is(answer, 4, point)
 }
 
-fn area_is(answer: &[u64], r: Region) -> bool {
+fn measures_are<'a>(
+    answer: &'a [u64],
+    ring: &'a [f64],
+    n: usize,
+    points: &'a [f64],
+    counts: &'a [usize],
+    h: usize,
+) -> bool {
+    let area = regionqueries::area(ring, n, points, counts, h);
+    let perimeter = regionqueries::perimeter(ring, n, points, counts, h);
+    let of_area = area.refusal;
+    let of_perimeter = perimeter.refusal;
+    shapes::refusal_is(answer, of_area)
+        & shapes::refusal_is(answer, of_perimeter)
+        & parts::float_is(answer, 1, area.value)
+        & parts::float_is(answer, 2, perimeter.value)
+}
+
+fn asked_is(answer: &[u64], r: Region, p: PlanarPoint) -> bool {
     let outer = r.outer;
     let ring = outer.points;
     let points = r.points;
     let counts = r.counts;
-    let area = regionqueries::area(&ring, outer.count, &points, &counts, r.holes);
-    let refusal = area.refusal;
-    shapes::refusal_is(answer, refusal) & parts::float_is(answer, 1, area.value)
-}
-
-fn perimeter_is(answer: &[u64], r: Region) -> bool {
-    let outer = r.outer;
-    let ring = outer.points;
-    let points = r.points;
-    let counts = r.counts;
-    let perimeter = regionqueries::perimeter(&ring, outer.count, &points, &counts, r.holes);
-    let refusal = perimeter.refusal;
-    shapes::refusal_is(answer, refusal) & parts::float_is(answer, 2, perimeter.value)
+    let rest = parts::fields_from(answer, 6, answer.len());
+    place_is(answer, &ring, outer.count, &points, &counts, r.holes, p)
+        & measures_are(rest, &ring, outer.count, &points, &counts, r.holes)
+        & (answer.len() == 9)
 }
 
 // Before the region stand the field that is changed, what stands there instead, and the point.
@@ -266,13 +217,5 @@ pub(crate) fn within<'a>(answer: &'a [u64], words: &'a [u64], numbers: &'a [f64]
         parts::field_at(words, 1) as usize,
         ring::number_at(numbers, 1),
     );
-    let p = shapes::point_at(numbers, 2);
-    let rest = parts::fields_from(answer, 6, answer.len());
-    refusal.granted()
-        & place_is(answer, now, p)
-        & gap_is(answer, now, p)
-        & foot_is(answer, now, p)
-        & area_is(rest, now)
-        & perimeter_is(rest, now)
-        & (answer.len() == 9)
+    refusal.granted() & asked_is(answer, now, shapes::point_at(numbers, 2))
 }

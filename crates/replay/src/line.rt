@@ -1,6 +1,4 @@
 // Lines: bytes into fields, a whole line into its comparison.
-use crate::field::ROOM;
-use crate::field::Scan;
 use crate::holed;
 use crate::kinds;
 use crate::offsets;
@@ -9,50 +7,57 @@ use crate::shapes;
 use crate::tally::Tally;
 use crate::tally::UNREAD;
 
-// How far the input was read: the line that is being read, the counts of those before, and whether there is more.
-pub(crate) struct Progress {
-    pub scan: Scan,
-    pub tally: Tally,
-    pub more: bool,
+// How many fields a line may have.
+pub(crate) const ROOM: usize = 1100;
+
+// A field: whether it is well formed, and then its value.
+struct Word {
+    sound: bool,
+    value: u64,
 }
 
-impl Progress {
-    pub(crate) fn new() -> Progress {
-        Progress {
-            scan: Scan::new(),
-            tally: Tally::new(),
-            more: true,
-        }
+// The first field of the bytes: 16 digits, and a comma or no more.
+fn first_word(rest: &[u8]) -> Word {
+    let mut sound = (rest.len() == 16) | (places::byte_at(rest, 16) == 44);
+    let mut value = 0u64;
+    let mut k = 0usize;
+    while k < 16 {
+        let b = places::byte_at(rest, k);
+        sound = sound & numerals::is_hex(b);
+        value = value % 1152921504606846976 * 16 + numerals::hex_part(b) as u64 % 16;
+        k += 1;
     }
+    Word {
+        sound: sound,
+        value: value,
+    }
+}
 
-    // One byte more that is not the end of the line.
-    pub(crate) fn step(self, b: u8) -> Progress {
-        let scan = self.scan;
-        let tally = self.tally;
-        Progress {
-            scan: scan.step(b),
-            tally: tally,
-            more: true,
+// Field k, as a whole number and as a float.
+fn store<'a>(fields: &'a mut [u64], numbers: &'a mut [f64], k: usize, v: u64) {
+    if k < fields.len() {
+        if k < numbers.len() {
+            fields[k] = v;
+            numbers[k] = numerals::float_of(v);
         }
     }
+}
 
-    // The input ends; a line without its LF counts as one that cannot be read.
-    pub(crate) fn ended(self) -> Progress {
-        let scan = self.scan;
-        let tally = self.tally;
-        if scan.fresh() {
-            return Progress {
-                scan: scan,
-                tally: tally,
-                more: false,
-            };
-        }
-        Progress {
-            scan: Scan::new(),
-            tally: tally.with(UNREAD, false),
-            more: false,
-        }
+// How many fields the line has; 0 where it cannot be read.
+fn read_fields<'a>(line: &'a [u8], fields: &'a mut [u64], numbers: &'a mut [f64]) -> usize {
+    if 17 * ROOM <= line.len() {
+        return 0;
     }
+    let count = (line.len() + 1) / 17;
+    let mut sound = (line.len() + 1) % 17 == 0;
+    let mut k = 0usize;
+    while k < count {
+        let w = first_word(parts::bytes_from(line, 17 * k, line.len()));
+        store(fields, numbers, k, w.value);
+        sound = sound & w.sound;
+        k += 1;
+    }
+    ring::choose(sound, count, 0)
 }
 
 // Whether the answer is the one that the library gives to a question of this kind.
@@ -94,58 +99,27 @@ fn take_fields<'a>(t: Tally, fields: &'a [u64], numbers: &'a [f64], count: usize
     t.with(kind as usize, answered(kind, answer, words, asked))
 }
 
-// Field k, as a whole number and as a float.
-fn store<'a>(fields: &'a mut [u64], numbers: &'a mut [f64], k: usize, v: u64) {
-    if k < fields.len() {
-        if k < numbers.len() {
-            fields[k] = v;
-            numbers[k] = parts::float_of(v);
-        }
-    }
+fn take_line<'a>(t: Tally, line: &'a [u8], fields: &'a mut [u64], numbers: &'a mut [f64]) -> Tally {
+    let count = read_fields(line, fields, numbers);
+    take_fields(t, fields, numbers, count)
 }
 
-// The line ends.
-fn take_line<'a>(p: Progress, fields: &'a [u64], numbers: &'a [f64]) -> Progress {
-    let scan = p.scan;
-    let tally = p.tally;
-    let whole = scan.with_field();
-    let counted = if whole.sound {
-        take_fields(tally, fields, numbers, whole.count)
-    } else {
-        tally.with(UNREAD, false)
-    };
-    Progress {
-        scan: Scan::new(),
-        tally: counted,
-        more: true,
-    }
-}
-
-// A field is stored where it ends.
-fn take_byte<'a>(p: Progress, b: u8, fields: &'a mut [u64], numbers: &'a mut [f64]) -> Progress {
-    let scan = p.scan;
-    if b == 10 {
-        store(fields, numbers, scan.count, scan.value);
-        return take_line(p, fields, numbers);
-    }
-    if b == 44 {
-        store(fields, numbers, scan.count, scan.value);
-        return p.step(b);
-    }
-    p.step(b)
-}
-
-pub(crate) fn take_bytes<'a>(
-    p: Progress,
-    bytes: &'a [u8],
+// A line without its LF counts as one that cannot be read.
+pub(crate) fn take_lines<'a>(
+    text: &'a [u8],
     fields: &'a mut [u64],
     numbers: &'a mut [f64],
-) -> Progress {
-    let mut q = p;
-    let mut k = 0;
-    while k < bytes.len() {
-        q = take_byte(q, bytes[k], fields, numbers);
-        k += 1;
+) -> Tally {
+    let mut t = Tally::new();
+    let mut at = 0usize;
+    while at < text.len() {
+        let stop = bytes::scan::find(text, at, text.len(), 10);
+        if text.len() <= stop {
+            return t.with(UNREAD, false);
+        }
+        let counted = take_line(t, &text[at..stop], fields, numbers);
+        t = counted;
+        at = stop + 1;
     }
-    q
+    t
 }

@@ -10,6 +10,15 @@ pub(crate) fn fields_from(fs: &[u64], from: usize, to: usize) -> &[u64] {
     &fs[..0]
 }
 
+pub(crate) fn bytes_from(bs: &[u8], from: usize, to: usize) -> &[u8] {
+    if to <= bs.len() {
+        if from <= to {
+            return &bs[from..to];
+        }
+    }
+    &bs[..0]
+}
+
 pub(crate) fn numbers_from(ps: &[f64], from: usize, to: usize) -> &[f64] {
     if to <= ps.len() {
         if from <= to {
@@ -38,16 +47,6 @@ pub(crate) fn float_is(fs: &[u64], k: usize, x: f64) -> bool {
         return whole_is(fs, k, 0);
     }
     field_at(fs, k) == f64::to_bits(x)
-}
-
-// The float of a pattern; each pattern of a NaN is the one NaN.
-pub(crate) fn float_of(bits: u64) -> f64 {
-    let magnitude = bits % 9223372036854775808;
-    if 9218868437227405312 < magnitude {
-        return math::nan();
-    }
-    let x = f64::from_bits(magnitude);
-    if magnitude < bits { -x } else { x }
 }
 
 // The fields are the first numbers of ps.

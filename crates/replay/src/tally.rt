@@ -1,107 +1,81 @@
 // How many lines were compared and how many differ, by kind.
+use crate::parts;
 
-// The place of lines that cannot be read, after the twelve kinds.
+// The place of lines that cannot be read, after the twelve kinds. The place after it has all lines.
 pub(crate) const UNREAD: usize = 12;
 
 pub(crate) struct Tally {
-    pub compared: [u64; 13],
-    pub differ: [u64; 13],
+    pub compared: [u64; 14],
+    pub differ: [u64; 14],
 }
 
 fn one_more(n: u64) -> u64 {
     if n < u64::MAX { n + 1 } else { n }
 }
 
-fn sum(a: u64, b: u64) -> u64 {
-    if a <= u64::MAX - b { a + b } else { u64::MAX }
+// One more of a kind, and of all.
+fn counted(counts: [u64; 14], kind: usize) -> [u64; 14] {
+    let mut now = counts;
+    if kind < 13 {
+        now[kind] = one_more(now[kind]);
+        now[13] = one_more(now[13]);
+    }
+    now
 }
 
-fn at(counts: [u64; 13], k: usize) -> u64 {
-    if k < 13 { counts[k] } else { 0 }
+fn at(counts: [u64; 14], k: usize) -> u64 {
+    if k < 14 { counts[k] } else { 0 }
 }
 
 impl Tally {
     pub(crate) fn new() -> Tally {
         Tally {
-            compared: [0; 13],
-            differ: [0; 13],
+            compared: [0; 14],
+            differ: [0; 14],
         }
     }
 
     // One line more of this kind.
     pub(crate) fn with(self, kind: usize, same: bool) -> Tally {
-        let mut compared = self.compared;
-        let mut differ = self.differ;
-        if kind < 13 {
-            compared[kind] = one_more(compared[kind]);
-            if !same {
-                differ[kind] = one_more(differ[kind]);
-            }
+        let compared = self.compared;
+        let differ = self.differ;
+        if same {
+            return Tally {
+                compared: counted(compared, kind),
+                differ: differ,
+            };
         }
         Tally {
-            compared: compared,
-            differ: differ,
+            compared: counted(compared, kind),
+            differ: counted(differ, kind),
         }
     }
 
     pub(crate) fn print(self) {
         let compared = self.compared;
         let differ = self.differ;
-        let mut all = 0;
-        let mut wrong = 0;
-        let mut k = 0;
-        while k < 13 {
-            let here = at(compared, k);
-            let bad = at(differ, k);
-            print_row(k, here, bad);
-            all = sum(all, here);
-            wrong = sum(wrong, bad);
+        let mut k = 0usize;
+        while k < 14 {
+            print_name(k);
+            print_counts(at(compared, k), at(differ, k));
             k += 1;
         }
-        print_row(13, all, wrong);
     }
 }
 
+// The kinds by name, nine bytes each, with the lines that cannot be read and all lines.
 fn print_name(kind: usize) {
-    match kind {
-        0 => io::write_all(1, &[b'o', b'u', b't', b'l', b'i', b'n', b'e']),
-        1 => io::write_all(1, &[b'c', b'o', b'n', b't', b'a', b'i', b'n', b's']),
-        2 => io::write_all(1, &[b'n', b'e', b'a', b'r', b'e', b's', b't']),
-        3 => io::write_all(1, &[b'm', b'e', b'a', b's', b'u', b'r', b'e', b's']),
-        4 => io::write_all(1, &[b'c', b'l', b'e', b'a', b'r', b'a', b'n', b'c', b'e']),
-        5 => io::write_all(1, &[b'e', b'd', b'g', b'e']),
-        6 => io::write_all(1, &[b'p', b'o', b'i', b'n', b't']),
-        7 => io::write_all(1, &[b'a', b'r', b'e', b'a']),
-        8 => io::write_all(1, &[b'o', b'f', b'f', b's', b'e', b't']),
-        9 => io::write_all(1, &[b'r', b'e', b'g', b'i', b'o', b'n']),
-        10 => io::write_all(1, &[b'i', b'n', b's', b'e', b't']),
-        11 => io::write_all(1, &[b'w', b'i', b't', b'h', b'i', b'n']),
-        12 => io::write_all(1, &[b'u', b'n', b'r', b'e', b'a', b'd']),
-        _ => io::write_all(1, &[b't', b'o', b't', b'a', b'l']),
+    let names: &[u8] =
+        b"outline  contains nearest  measures clearanceedge     point    area     offset   region   inset    within   unread   total    ";
+    if kind < 14 {
+        io::write_all(1, parts::bytes_from(names, 9 * kind, 9 * kind + 9));
     }
-    ;
 }
 
-fn print_row(kind: usize, compared: u64, differ: u64) {
-    print_name(kind);
-    io::write_all(1, &[b' ']);
+fn print_counts(compared: u64, differ: u64) {
+    io::write_all(1, b" ");
     io::print_decimal(1, compared);
-    io::write_all(
-        1,
-        &[
-            b' ',
-            b'c',
-            b'o',
-            b'm',
-            b'p',
-            b'a',
-            b'r',
-            b'e',
-            b'd',
-            b',',
-            b' ',
-        ],
-    );
+    io::write_all(1, b" compared, ");
     io::print_decimal(1, differ);
-    io::write_all(1, &[b' ', b'd', b'i', b'f', b'f', b'e', b'r', b'\n']);
+    io::write_all(1, b" differ\n");
 }

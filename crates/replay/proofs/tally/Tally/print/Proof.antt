@@ -5,13 +5,16 @@ use Rattle.replay.proofs.tally.Tally.print.Statement.{statement}
 use Rattle.replay.proofs.tally.Tally.print.Tie as tie
 
 abbrev Inv-loop : tie.InvT-loop
-Inv-loop compared differ all₀ wrong₀ k₀ all wrong k = k ≤ 13
+Inv-loop compared differ k₀ k = k ≤ 14
 
 abbrev μ-loop : tie.MeasureT-loop
-μ-loop compared differ all₀ wrong₀ k₀ all wrong k = 13 - k
+μ-loop compared differ k₀ k = 14 - k
 
 loop-holds : tie.Need-loop-holds Inv-loop μ-loop
 loop-holds c = search needs
+
+print-name-requires : tie.Need-print-name-requires Inv-loop μ-loop
+print-name-requires c κs = search needs
 
 at-requires : tie.Need-at-requires Inv-loop μ-loop
 at-requires c κs = search needs
@@ -19,14 +22,8 @@ at-requires c κs = search needs
 at-requires-2 : tie.Need-at-requires-2 Inv-loop μ-loop
 at-requires-2 c κs = search needs
 
-print-row-requires : tie.Need-print-row-requires Inv-loop μ-loop
-print-row-requires c κs = search needs
-
-sum-requires : tie.Need-sum-requires Inv-loop μ-loop
-sum-requires c κs = search needs
-
-sum-requires-2 : tie.Need-sum-requires-2 Inv-loop μ-loop
-sum-requires-2 c κs = search needs
+print-counts-requires : tie.Need-print-counts-requires Inv-loop μ-loop
+print-counts-requires c κs = search needs
 
 add-k : tie.Need-add-k Inv-loop μ-loop
 add-k c = search needs
@@ -36,9 +33,6 @@ loop-less c = search needs
 
 loop-again : tie.Need-loop-again Inv-loop μ-loop
 loop-again c = search needs
-
-print-row-requires-2 : tie.Need-print-row-requires-2 Inv-loop μ-loop
-print-row-requires-2 c κs = search needs
 
 returns : tie.Need-returns Inv-loop μ-loop
 returns c = search needs
@@ -50,13 +44,11 @@ print-spec =
     Inv-loop
     μ-loop
     loop-holds
+    print-name-requires
     at-requires
     at-requires-2
-    print-row-requires
-    sum-requires
-    sum-requires-2
+    print-counts-requires
     add-k
     loop-less
     loop-again
-    print-row-requires-2
     returns)

@@ -13,11 +13,7 @@ use Rattle.plane.specs.declared.PlanarPoint.{PlanarPoint}
 use Rattle.ring.specs.Ring.{stored-at}
 use Rattle.ring.specs.Store.{store-vertex, store-step, stored}
 use Rattle.loops.proofs.Laws.{rounds-keep}
-use Rattle.error.specs.declared.Refusal.{Refusal}
-use Rattle.region.specs.declared.Region.{Region}
-use Rattle.region.specs.Regions.{no-region}
-use Rattle.region.specs.Insets.{region-pieces-refused}
-use Rattle.regionstore.specs.Rooms.{filed}
+use Rattle.holes.specs.Filing.{filed}
 
 -- the slot of vertex k, as the code caps it
 slot-in : (base k slot : ℕ) → slot ≡ base + cond (ltb k 256) k 256 → slot < 256 → slot ≡ base + k
@@ -72,10 +68,6 @@ module _ (ps : List Float) (n : ℕ) (back : Bool) (base : ℕ) (out : List Floa
 
   pub is-filed : (new : List Float) → base ≤ 256 → not (eqb (length out) 512) ≡ false → new ≡ stored ps n back base out → new ≡ filed ps n back base out
   is-filed new l t h = h ∙ sym (filed-is l (eqb-true (length out) 512 (not-false (eqb (length out) 512) t)))
-
-pub refused-as : (r : Refusal) (q : Region) → q ≡ no-region → record { refusal = r; found = false; shape = q } ≡ region-pieces-refused r
-unfolding region-pieces-refused
-refused-as r q e = ap (λ (x : Region). record { refusal = r; found = false; shape = x }) e
 
 module _ (ps : List Float) (n : ℕ) (back : Bool) (base k c slot : ℕ) (out : List Float) (e : c ≡ cond (ltb k 256) k 256) (f : slot ≡ base + c) where
   slot-is : slot ≡ base + cond (ltb k 256) k 256

@@ -1,4 +1,4 @@
--- `regionstore::store_ring` meets its contract. Assumes nothing.
+-- `holes::store_ring` meets its contract. Assumes nothing.
 use borrow.Author.Needs.{needs}
 use native.Mathlib.Omega.{arith}
 use Prim.Native.Nat.{_-_, _≤_}
@@ -7,9 +7,9 @@ use lib.ListN.{length}
 use Rattle.loops.specs.Loop.{rounds}
 use Rattle.loops.proofs.Laws.{no-round, goes-on, ends}
 use Rattle.ring.specs.Store.{store-step, stored}
-use Rattle.regionstore.proofs.Filed.{slot-fits, second-in, filed-in, filed-out}
-use Rattle.regionstore.proofs.store_ring.Statement.{statement}
-use Rattle.regionstore.proofs.store_ring.Tie as tie
+use Rattle.holes.proofs.Filed.{slot-fits, second-in, filed-in, filed-out}
+use Rattle.holes.proofs.store_ring.Statement.{statement}
+use Rattle.holes.proofs.store_ring.Tie as tie
 
 abbrev Inv-loop : tie.InvT-loop
 Inv-loop ps n back base out₀ k₀ out k = (k ≤ n) × (length out ≡ 512) × (out ≡ rounds (store-step ps n back base) k out₀)
