@@ -1,11 +1,13 @@
 // A region handed in: the numbers and the count of its outer ring, the flat numbers of its holes, their counts, and how many holes there are.
 ghost use mathlib.Core.Path.{_≡_};
-ghost use Prim.Native.Nat.{_*_};
-ghost use lib.ListN.{getD, drop};
+ghost use Prim.Native.Nat.{_*_, _≤_};
+ghost use lib.ListN.{getD, drop, length};
+ghost use Rattle.ring.specs.Store;
 ghost use Rattle.region.specs.Regions;
 ghost use Rattle.region.specs.Checks;
 ghost use Rattle.region.specs.Queries;
 ghost use Rattle.holes.specs.Given;
+ghost use Rattle.holes.specs.Filing;
 use error::Refusal;
 use polygon::entry;
 use region::Region;
@@ -27,6 +29,39 @@ pub fn hole_points<'a>(qs: &'a [f64], k: usize) -> &'a [f64]
     } else {
         &qs[..0]
     }
+}
+
+// A ring of n vertices, stored from the vertex `base` of the flat numbers on, where they are. A vertex past the room is left out.
+pub(crate) fn store_ring(ps: &[f64], n: usize, back: bool, base: usize, out: &mut [f64])
+    requires { ⌜ base ≤ 256 ⌝ }
+    requires { ⌜ length (now out) ≡ 512 ⌝ }
+    ensures { λ _. ⌜ now (out .exit) ≡ Store.stored (now (ps .entry)) n back base (now (out .entry)) ⌝ }
+{
+    let room = 256 - base;
+    let mut k = 0;
+    while k < n {
+        let v = ring::stored_at(ps, n, back, k);
+        let at = k;
+        k += 1;
+        if at < room {
+            let place = base + at;
+            out[2 * place] = v.east;
+            out[2 * place + 1] = v.north;
+        }
+    }
+}
+
+// The same for any base and any numbers: where they are not those of a region's holes, nothing is stored.
+pub fn file_ring(ps: &[f64], n: usize, back: bool, base: usize, out: &mut [f64])
+    ensures { λ _. ⌜ now (out .exit) ≡ Filing.filed (now (ps .entry)) n back base (now (out .entry)) ⌝ }
+{
+    if 256 < base {
+        return;
+    }
+    if !(out.len() == 512) {
+        return;
+    }
+    store_ring(ps, n, back, base, out);
 }
 
 pub fn no_region() -> Region

@@ -32,7 +32,7 @@ use Rattle.region.specs.declared.Region.{Region}
 use Rattle.region.specs.declared.RegionPieces.{RegionPieces}
 use Rattle.region.specs.Regions.{no-region, with-outer, store-hole}
 use Rattle.region.specs.Insets.{region-pieces-refused, is-outer, with-outer-piece, with-hole-piece, with-region-piece, visit-region-piece, region-pieces-refusal, region-pieces}
-use Rattle.regionstore.specs.Rooms.{place-refusal}
+use Rattle.regionpieces.specs.Rooms.{place-refusal}
 
 -- what the rings have come to, how many they were, and the slots that they have passed
 abbrev pub region-at : Outline → List Float → List ℕ → ℕ → Region
@@ -55,6 +55,10 @@ pub none-made : (step : ℕ → Visits RegionPieces → Visits RegionPieces) (o 
     rounds step 0 no-visits ≡ visits-at (pieces-at Granted false (region-at o (replicate 512 zero-float) (replicate 8 0) 0)) 0 (replicate 128 false)
 unfolding visits-from no-region
 none-made step o e = no-round _ _ ∙ ap (λ (z : Outline). visits-at (pieces-at Granted false (region-at z (replicate 512 zero-float) (replicate 8 0) 0)) 0 (replicate 128 false)) (sym e)
+
+pub refused-as : (r : Refusal) (q : Region) → q ≡ no-region → record { refusal = r; found = false; shape = q } ≡ region-pieces-refused r
+unfolding region-pieces-refused
+refused-as r q e = ap (λ (x : Region). record { refusal = r; found = false; shape = x }) e
 
 pub one-more : (place k : ℕ) → place ≤ k → place + 1 ≤ k + 1
 one-more place k l = omega arith

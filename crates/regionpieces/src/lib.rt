@@ -1,12 +1,32 @@
 // The pieces of a region's inset: what the finished rings of its front come to.
 ghost use mathlib.Core.Path.{_≡_};
 ghost use Rattle.region.specs.Insets;
+ghost use Rattle.regionpieces.specs.Rooms;
 use error::Refusal;
 use front::Edge;
 use offset::Piece;
 use plane::PlanarPoint;
 use region::Region;
 use region::RegionPieces;
+
+pub fn region_pieces_refused(r: Refusal) -> RegionPieces
+    ensures { λ x. ⌜ x ≡ Insets.region-pieces-refused r ⌝ }
+{
+    RegionPieces {
+        refusal: r,
+        found: false,
+        shape: holes::no_region(),
+    }
+}
+
+// Whether there is a place for a whole piece: one outer ring, and eight holes.
+pub fn place_refusal(d: f64, outer: bool, found: bool, held: usize) -> Refusal
+    ensures { λ r. ⌜ r ≡ Rooms.place-refusal d outer found held ⌝ }
+{
+    let split = error::choose(found, Refusal::Splits(d), Refusal::Granted);
+    let full = error::choose(held < 8, Refusal::Granted, Refusal::ManyPieces(9));
+    error::choose(outer, split, full)
+}
 
 // A ring starts at the first live slot that no ring before it has passed. One whose area is above 0 is the outer one, any other is a hole; the first refusal ends it.
 pub fn region_pieces(
@@ -38,18 +58,18 @@ pub fn region_pieces(
             place += 1;
             match piece {
                 Piece::Shrunk => {}
-                Piece::Failed(r) => return regionstore::region_pieces_refused(r),
+                Piece::Failed(r) => return region_pieces_refused(r),
                 Piece::Whole(n, back) => {
-                    let r = regionstore::place_refusal(d, outer, found, held);
+                    let r = place_refusal(d, outer, found, held);
                     if !r.granted() {
-                        return regionstore::region_pieces_refused(r);
+                        return region_pieces_refused(r);
                     }
                     if outer {
                         let stored = polygon::store::stored_outline(&w.points, n, back);
                         ring = stored;
                         found = true;
                     } else {
-                        regionstore::file_ring(&w.points, n, back, 32 * held, &mut points);
+                        holes::file_ring(&w.points, n, back, 32 * held, &mut points);
                         counts[held] = n;
                         held += 1;
                     }

@@ -5,7 +5,7 @@ use mathlib.Core.Path.{_≡_, refl, sym}
 use lib.ListN.{length}
 use Rattle.error.specs.declared.Refusal.the-variants.{Granted}
 use Rattle.loops.specs.Loop.{rounds}
-use Rattle.regionstore.proofs.Filed.{filed-as, filed-length}
+use Rattle.holes.proofs.Filed.{filed-as, filed-length}
 use Rattle.regionpieces.proofs.Turns.{region-at, pieces-at, visits-at, piece-step, no-visits, none-made, next-in, falls, one-more, below-eight, hole-base, hole-placed, passes-on, shrinks, fails, no-place, keeps-outer, keeps-hole, all-passed}
 use Rattle.regionpieces.proofs.region_pieces.Statement.{statement}
 use Rattle.regionpieces.proofs.region_pieces.Tie as tie

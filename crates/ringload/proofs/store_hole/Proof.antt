@@ -8,7 +8,8 @@ use Rattle.loops.specs.Loop.{rounds}
 use Rattle.loops.proofs.Laws.{no-round, goes-on, ends}
 use Rattle.ring.specs.Store.{store-step}
 use Rattle.ring.proofs.Choices.{no}
-use Rattle.ringload.proofs.Stores.{store-in, store-out, stored-all}
+use Rattle.holes.proofs.Filed.{store-in, store-out}
+use Rattle.ringload.proofs.Stores.{stored-all}
 use Rattle.ringload.proofs.store_hole.Statement.{statement}
 use Rattle.ringload.proofs.store_hole.Tie as tie
 

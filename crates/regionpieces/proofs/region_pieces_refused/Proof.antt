@@ -1,8 +1,8 @@
--- `regionstore::region_pieces_refused` meets its contract. Assumes nothing.
-use Rattle.regionstore.proofs.Filed.{refused-as}
+-- `regionpieces::region_pieces_refused` meets its contract. Assumes nothing.
+use Rattle.regionpieces.proofs.Turns.{refused-as}
 use borrow.Author.Needs.{needs}
-use Rattle.regionstore.proofs.region_pieces_refused.Statement.{statement}
-use Rattle.regionstore.proofs.region_pieces_refused.Tie as tie
+use Rattle.regionpieces.proofs.region_pieces_refused.Statement.{statement}
+use Rattle.regionpieces.proofs.region_pieces_refused.Tie as tie
 
 no-region-requires : tie.Need-no-region-requires
 no-region-requires c κs = search needs

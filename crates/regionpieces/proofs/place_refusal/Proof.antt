@@ -1,8 +1,9 @@
--- `regionstore::place_refusal` meets its contract. Assumes nothing.
-use Rattle.regionstore.specs.Rooms
+-- `regionpieces::place_refusal` meets its contract. Assumes nothing.
+use Rattle.regionpieces.specs.Rooms
 use borrow.Author.Needs.{needs}
-use Rattle.regionstore.proofs.place_refusal.Statement.{statement}
-use Rattle.regionstore.proofs.place_refusal.Tie as tie
+use mathlib.Core.Path.{refl}
+use Rattle.regionpieces.proofs.place_refusal.Statement.{statement}
+use Rattle.regionpieces.proofs.place_refusal.Tie as tie
 
 choose-requires : tie.Need-choose-requires
 choose-requires c κs = search needs
@@ -15,7 +16,7 @@ choose-requires-3 c κs = search needs
 
 returns : tie.Need-returns
 unfolding Rooms.place-refusal
-returns c = cc
+returns c = rw (c .choose3 .ensures, c .before .choose2 .ensures, c .before .before .choose .ensures) refl
 
 pub place-refusal-spec : {M : Type 1} → statement M
 place-refusal-spec =

@@ -1,9 +1,9 @@
--- `regionstore::file_ring` meets its contract. Assumes nothing.
+-- `holes::file_ring` meets its contract. Assumes nothing.
 use borrow.Author.Needs.{needs}
 use borrow.Author.Tests.{eqb-true, not-false}
-use Rattle.regionstore.proofs.Filed.{past-room, other-numbers, is-filed}
-use Rattle.regionstore.proofs.file_ring.Statement.{statement}
-use Rattle.regionstore.proofs.file_ring.Tie as tie
+use Rattle.holes.proofs.Filed.{past-room, other-numbers, is-filed}
+use Rattle.holes.proofs.file_ring.Statement.{statement}
+use Rattle.holes.proofs.file_ring.Tie as tie
 
 returns : tie.Need-returns
 returns c = past-room _ _ _ _ _ (c .if1 .taken)
