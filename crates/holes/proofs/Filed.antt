@@ -1,10 +1,10 @@
 -- One vertex stored into the flat numbers of a region's holes, and one past the room. Assumes nothing.
 use mathlib.Core.Path.{_≡_, refl, sym, ap, _∙_}
-use mathlib.Core.Bool.{Bool, true, false, cond, not}
+use mathlib.Core.Bool.{Bool, true, false, not}
 use mathlib.Core.List.{List}
-use Prim.Native.Nat.{ℕ, _+_, _*_, _≤_, _<_}
+use Prim.Native.Nat.{ℕ, _+_, _-_, _*_, _≤_, _<_}
 use native.Mathlib.Omega.{arith}
-use borrow.Author.Tests.{ltb-true, ltb-false, lt-ltb, le-ltb, eqb-true, eq-eqb, not-true, not-false}
+use borrow.Author.Tests.{lt-ltb, le-ltb, eqb-true, eq-eqb, not-true, not-false}
 use lib.Dec.{ltb, eqb}
 use lib.ListN.{length, set, length-set}
 use lib.Seq.{set-out}
@@ -15,30 +15,21 @@ use Rattle.ring.specs.Store.{store-vertex, store-step, stored}
 use Rattle.loops.proofs.Laws.{rounds-keep}
 use Rattle.holes.specs.Filing.{filed}
 
--- the slot of vertex k, as the code caps it
-slot-in : (base k slot : ℕ) → slot ≡ base + cond (ltb k 256) k 256 → slot < 256 → slot ≡ base + k
-slot-in base k slot e l = go (ltb k 256) refl e
-  where
-    go : (b : Bool) → ltb k 256 ≡ b → slot ≡ base + cond b k 256 → slot ≡ base + k
-    go true t q = q
-    go false t q = absurd (omega arith)
+pub second-in : (out : List Float) (base room at : ℕ) → length out ≡ 512 → room ≡ 256 - base → at < room → 2 * (base + at) + 1 < length out
+second-in out base room at e r l = omega arith
 
-slot-out : (base k slot : ℕ) → slot ≡ base + cond (ltb k 256) k 256 → 256 ≤ slot → 256 ≤ base + k
-slot-out base k slot e l = go (ltb k 256) refl e
-  where
-    go : (b : Bool) → ltb k 256 ≡ b → slot ≡ base + cond b k 256 → 256 ≤ base + k
-    go true t q = omega arith
-    go false t q = omega (arith, ltb-false k 256 t)
+module _ (ps : List Float) (n : ℕ) (back : Bool) (base i : ℕ) (out : List Float) where
+  pub store-in : (v : PlanarPoint) → v ≡ stored-at ps n back i → set (set out (2 * (base + i)) (v .east)) (2 * (base + i) + 1) (v .north) ≡ store-step ps n back base i out
+  unfolding store-step store-vertex
+  store-in v e = rw e refl
 
-pub slot-fits : (base k c : ℕ) → base ≤ 256 → c ≡ cond (ltb k 256) k 256 → c ≤ 256
-slot-fits base k c l e = go (ltb k 256) refl e
-  where
-    go : (b : Bool) → ltb k 256 ≡ b → c ≡ cond b k 256 → c ≤ 256
-    go true t q = omega (arith, ltb-true k 256 t)
-    go false t q = omega arith
-
-pub second-in : (out : List Float) (slot : ℕ) → length out ≡ 512 → slot < 256 → 2 * slot + 1 < length out
-second-in out slot e l = omega arith
+  pub store-out : length out ≡ 512 → 256 - base ≤ i → out ≡ store-step ps n back base i out
+  unfolding store-step store-vertex
+  store-out e l =
+      let v = stored-at ps n back i in
+      let a : set out (2 * (base + i)) (v .east) ≡ out = set-out out (2 * (base + i)) (v .east) (omega arith) in
+      let b : set out (2 * (base + i) + 1) (v .north) ≡ out = set-out out (2 * (base + i) + 1) (v .north) (omega arith) in
+      sym (ap (λ (x : List Float). set x (2 * (base + i) + 1) (v .north)) a ∙ b)
 
 -- a ring that is stored leaves the list as long as it was
 stored-length : (ps : List Float) (n : ℕ) (back : Bool) (base : ℕ) (out : List Float) → length (stored ps n back base out) ≡ length out
@@ -68,20 +59,3 @@ module _ (ps : List Float) (n : ℕ) (back : Bool) (base : ℕ) (out : List Floa
 
   pub is-filed : (new : List Float) → base ≤ 256 → not (eqb (length out) 512) ≡ false → new ≡ stored ps n back base out → new ≡ filed ps n back base out
   is-filed new l t h = h ∙ sym (filed-is l (eqb-true (length out) 512 (not-false (eqb (length out) 512) t)))
-
-module _ (ps : List Float) (n : ℕ) (back : Bool) (base k c slot : ℕ) (out : List Float) (e : c ≡ cond (ltb k 256) k 256) (f : slot ≡ base + c) where
-  slot-is : slot ≡ base + cond (ltb k 256) k 256
-  slot-is = f ∙ ap (λ (x : ℕ). base + x) e
-
-  pub filed-in : (v : PlanarPoint) → slot < 256 → v ≡ stored-at ps n back k → set (set out (2 * slot) (v .east)) (2 * slot + 1) (v .north) ≡ store-step ps n back base k out
-  unfolding store-step store-vertex
-  filed-in v l h = rw (slot-in base k slot slot-is l, h) refl
-
-  pub filed-out : length out ≡ 512 → 256 ≤ slot → out ≡ store-step ps n back base k out
-  unfolding store-step store-vertex
-  filed-out z l =
-      let v = stored-at ps n back k in
-      let far : 256 ≤ base + k = slot-out base k slot slot-is l in
-      let a : set out (2 * (base + k)) (v .east) ≡ out = set-out out (2 * (base + k)) (v .east) (omega arith) in
-      let b : set out (2 * (base + k) + 1) (v .north) ≡ out = set-out out (2 * (base + k) + 1) (v .north) (omega arith) in
-      sym (ap (λ (x : List Float). set x (2 * (base + k) + 1) (v .north)) a ∙ b)

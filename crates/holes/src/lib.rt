@@ -37,14 +37,16 @@ pub(crate) fn store_ring(ps: &[f64], n: usize, back: bool, base: usize, out: &mu
     requires { ⌜ length (now out) ≡ 512 ⌝ }
     ensures { λ _. ⌜ now (out .exit) ≡ Store.stored (now (ps .entry)) n back base (now (out .entry)) ⌝ }
 {
+    let room = 256 - base;
     let mut k = 0;
     while k < n {
         let v = ring::stored_at(ps, n, back, k);
-        let slot = base + ring::choose(k < 256, k, 256);
+        let at = k;
         k += 1;
-        if slot < 256 {
-            out[2 * slot] = v.east;
-            out[2 * slot + 1] = v.north;
+        if at < room {
+            let place = base + at;
+            out[2 * place] = v.east;
+            out[2 * place + 1] = v.north;
         }
     }
 }

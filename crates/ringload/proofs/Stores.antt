@@ -1,22 +1,18 @@
 -- A ring stored among the holes of a region that is loaded. Assumes nothing.
-use mathlib.Core.Path.{_≡_, refl, _∙_}
+use mathlib.Core.Path.{_≡_, refl}
 use mathlib.Core.Bool.{Bool, true, false, cond}
 use mathlib.Core.List.{List}
-use Prim.Native.Nat.{ℕ, _*_, _<_}
-use native.Mathlib.Omega.{arith}
-use borrow.Author.Tests.{lt-ltb}
+use Prim.Native.Nat.{ℕ, _*_}
 use lib.Dec.{ltb}
-use lib.ListN.{length}
 use lib.Ieee.{Float}
 use Rattle.polygon.specs.declared.Outline.{Outline}
 use Rattle.region.specs.declared.Region.{Region}
-use Rattle.ring.specs.Store.{stored}
-use Rattle.holes.specs.Filing.{filed}
-use Rattle.holes.proofs.Filed.{filed-as}
+use Rattle.loops.specs.Loop.{rounds}
+use Rattle.ring.specs.Store.{store-step, stored}
 
--- the ring of one of the eight holes is stored in its place
-pub hole-filed : (ps : List Float) (n : ℕ) (back : Bool) (k : ℕ) (old new : List Float) → new ≡ filed ps n back (32 * k) old → k < 8 → length old ≡ 512 → new ≡ cond (ltb k 8) (stored ps n back (32 * k) old) old
-hole-filed ps n back k old new e l h = filed-as ps n back (32 * k) old new e (omega arith) h ∙ rw (lt-ltb k 8 l) refl
+pub stored-all : (ps : List Float) (n : ℕ) (back : Bool) (base k : ℕ) (old out : List Float) → base ≡ 32 * k → ltb k 8 ≡ true → out ≡ rounds (store-step ps n back base) n old → out ≡ cond (ltb k 8) (stored ps n back (32 * k) old) old
+unfolding stored
+stored-all ps n back base k old out e h f = rw (h, ← e) f
 
 -- a hole more, or one past the eighth
 pub hole-more : (b : Bool) (o : Outline) (p q : List Float) (c d : List ℕ) (k : ℕ)

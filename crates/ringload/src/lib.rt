@@ -37,8 +37,20 @@ pub fn store_hole(ps: &[f64], n: usize, back: bool, k: usize, old: [f64; 512]) -
     if 8 <= k {
         return old;
     }
+    let base = 32 * k;
+    let room = 256 - base;
     let mut points = old;
-    holes::file_ring(ps, n, back, 32 * k, &mut points);
+    let mut i = 0;
+    while i < n {
+        let v = ring::stored_at(ps, n, back, i);
+        let at = i;
+        i += 1;
+        if at < room {
+            let place = base + at;
+            points[2 * place] = v.east;
+            points[2 * place + 1] = v.north;
+        }
+    }
     points
 }
 

@@ -1,36 +1,35 @@
 -- `holes::store_ring` meets its contract. Assumes nothing.
 use borrow.Author.Needs.{needs}
-use native.Mathlib.Omega.{arith}
 use Prim.Native.Nat.{_-_, _≤_}
 use mathlib.Core.Path.{_≡_, refl, sym}
 use lib.ListN.{length}
 use Rattle.loops.specs.Loop.{rounds}
 use Rattle.loops.proofs.Laws.{no-round, goes-on, ends}
 use Rattle.ring.specs.Store.{store-step, stored}
-use Rattle.holes.proofs.Filed.{slot-fits, second-in, filed-in, filed-out}
+use Rattle.holes.proofs.Filed.{second-in, store-in, store-out}
 use Rattle.holes.proofs.store_ring.Statement.{statement}
 use Rattle.holes.proofs.store_ring.Tie as tie
 
 abbrev Inv-loop : tie.InvT-loop
-Inv-loop ps n back base out₀ k₀ out k = (k ≤ n) × (length out ≡ 512) × (out ≡ rounds (store-step ps n back base) k out₀)
+Inv-loop ps n back base out₀ room k₀ out k = (k ≤ n) × (length out ≡ 512) × (room ≡ 256 - base) × (base ≤ 256) × (out ≡ rounds (store-step ps n back base) k out₀)
 
 abbrev μ-loop : tie.MeasureT-loop
-μ-loop ps n back base out₀ k₀ out k = n - k
+μ-loop ps n back base out₀ room k₀ out k = n - k
+
+sub-room : tie.Need-sub-room Inv-loop μ-loop
+sub-room c = search needs
 
 loop-holds : tie.Need-loop-holds Inv-loop μ-loop
-loop-holds c = (search needs, search needs, sym (no-round _ _))
+loop-holds c = (search needs, search needs, refl, search needs, sym (no-round _ _))
 
 stored-at-requires : tie.Need-stored-at-requires Inv-loop μ-loop
 stored-at-requires c κs = search needs
 
-choose-requires : tie.Need-choose-requires Inv-loop μ-loop
-choose-requires c κs = search needs
-
-add-slot : tie.Need-add-slot Inv-loop μ-loop
-add-slot c = omega (arith, slot-fits _ (c .before .before .before .loop .k) _ (c .before .before .before .before .before .before .pre .0) (c .choose .ensures))
-
 add-k : tie.Need-add-k Inv-loop μ-loop
 add-k c = search needs
+
+add-place : tie.Need-add-place Inv-loop μ-loop
+add-place c = search needs
 
 mul-out : tie.Need-mul-out Inv-loop μ-loop
 mul-out c = search needs
@@ -51,26 +50,26 @@ mul-out-4 : tie.Need-mul-out-4 Inv-loop μ-loop
 mul-out-4 c = search needs
 
 slice-write-out-2 : tie.Need-slice-write-out-2 Inv-loop μ-loop
-slice-write-out-2 c = search (needs, second-in (c .before .before .before .before .loop .out) _ (c .before .before .before .before .loop .inv .1) (c .if1 .taken))
+slice-write-out-2 c = search (needs, second-in (c .before .before .before .loop .out) _ _ _ (c .before .before .before .loop .inv .1) (c .before .before .before .loop .inv .2) (c .if1 .taken))
 
 loop-less : tie.Need-loop-less Inv-loop μ-loop
 loop-less c = search needs
 
 loop-again : tie.Need-loop-again Inv-loop μ-loop
-loop-again c = (search needs, search needs, goes-on _ _ _ _ _ (c .before .before .before .before .loop .inv .2) (filed-in _ _ _ _ _ _ _ _ (c .before .choose .ensures) refl _ (c .if1 .taken) (c .before .before .stored-at .ensures)))
+loop-again c = (search needs, search needs, search needs, search needs, goes-on _ _ _ _ _ (c .before .before .before .loop .inv .4) (store-in _ _ _ _ _ _ _ (c .before .stored-at .ensures)))
 
 loop-less-2 : tie.Need-loop-less-2 Inv-loop μ-loop
 loop-less-2 c = search needs
 
 loop-again-2 : tie.Need-loop-again-2 Inv-loop μ-loop
-loop-again-2 c = (search needs, c .before .before .before .before .loop .inv .1, goes-on _ _ _ _ _ (c .before .before .before .before .loop .inv .2) (filed-out _ _ _ _ _ _ _ _ (c .before .choose .ensures) refl (c .before .before .before .before .loop .inv .1) (c .if1 .left)))
+loop-again-2 c = (search needs, c .before .before .before .loop .inv .1, search needs, search needs, goes-on _ _ _ _ _ (c .before .before .before .loop .inv .4) (store-out _ _ _ _ _ _ (c .before .before .before .loop .inv .1) (search needs)))
 
 same-length : tie.Need-same-length Inv-loop μ-loop
 same-length c = search needs
 
 returns : tie.Need-returns Inv-loop μ-loop
 unfolding stored
-returns c = ends _ _ _ _ _ (c .before .loop .inv .0) (c .loop-test .left) (c .before .loop .inv .2)
+returns c = ends _ _ _ _ _ (c .before .loop .inv .0) (c .loop-test .left) (c .before .loop .inv .4)
 
 pub store-ring-spec : {M : Type 1} → statement M
 store-ring-spec =
@@ -78,11 +77,11 @@ store-ring-spec =
     (tie.spec
     Inv-loop
     μ-loop
+    sub-room
     loop-holds
     stored-at-requires
-    choose-requires
-    add-slot
     add-k
+    add-place
     mul-out
     mul-out-2
     slice-write-out
