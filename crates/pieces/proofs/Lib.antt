@@ -1,2 +1,3 @@
 pub mod Comes
 pub mod Visited
+pub mod Walking

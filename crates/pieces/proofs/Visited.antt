@@ -25,6 +25,7 @@ use Rattle.offset.specs.declared.Piece.{Piece}
 use Rattle.offset.specs.declared.Piece.the-variants.{Shrunk, Failed, Whole}
 use Rattle.offset.specs.declared.Pieces.{Pieces}
 use Rattle.offset.specs.Offsets.{expected, with-piece, pieces-refused, pieces-refusal, visit-piece, pieces}
+use Rattle.finishing.proofs.Walks.{walk-at}
 use Rattle.pieces.specs.Numbers.{ring-piece}
 use Rattle.pieces.proofs.Comes.{ring-piece-is, failed-refuses}
 
@@ -117,6 +118,15 @@ module _ (f : List Edge) (origin : PlanarPoint) (outward : Bool) (d tolerance : 
       another y h e =
           ends-at y (ap (λ (z : Pieces). granted (z .refusal)) e)
           (visits-on (Whole n back) whole ∙ rw (test false (not-true _ h)) (ap (λ (z : Pieces). visits-at z (place + 1) (w .seen)) (sym e)))
+
+-- a vertex of the ring is lost: that is refused, too
+pub lost-fails : (f : List Edge) (origin : PlanarPoint) (outward : Bool) (d tolerance : Float) (k place : ℕ) (found : Bool) (shape : Outline) (seen : List Bool) (l : k < 128) →
+    rounds (piece-step f origin outward d tolerance) k no-visits ≡ visits-at (pieces-at Granted found shape) place seen →
+    (at : ℕ) (passed : List Bool) (points : List Float) (count : ℕ) → ((getD f k blank) .alive && not (getD seen k false)) ≡ true →
+    walk-at at passed points count false true ≡ walk f d origin k seen → (y : Pieces) → y ≡ pieces-refused (Splits d) → y ≡ pieces f origin outward d tolerance
+unfolding ring-piece
+lost-fails f origin outward d tolerance k place found shape seen l so at passed points count on w y e =
+    fails f origin outward d tolerance k place found shape seen l so (walk-at at passed points count false true) (Failed (Splits d)) on w refl (Splits d) y refl e
 
 -- every slot is passed
 pub all-passed : (f : List Edge) (origin : PlanarPoint) (outward : Bool) (d tolerance : Float) (k place : ℕ) (made : Pieces) (seen : List Bool) → k ≤ 128 → 128 ≤ k →

@@ -5,6 +5,7 @@ ghost use Rattle.offset.specs.Rings;
 ghost use Rattle.pieces.specs.Numbers;
 use error::Refusal;
 use front::Edge;
+use front::Place;
 use offset::Piece;
 use offset::Pieces;
 use plane::PlanarPoint;
@@ -77,7 +78,8 @@ pub fn pieces_refused(r: Refusal) -> Pieces
     }
 }
 
-// A ring starts at the first live slot that no ring before it has passed. One piece at most is whole, on the side from which it came; the first refusal ends it.
+// A ring starts at the first live slot that no ring before it has passed. One piece at most is whole, on the side from which it came; the first refusal ends it. Each ring is walked here, in
+// the front that is being read: 128 steps at most.
 pub fn pieces(
     edges: [Edge; 128],
     origin: PlanarPoint,
@@ -97,20 +99,44 @@ pub fn pieces(
         first += 1;
         let e = edges[slot];
         if e.alive & !seen[slot] {
-            let w = finishing::walk(edges, d, origin, slot, seen);
-            let piece = offset_piece(128, place, d, tolerance, w.lost, &w.points, w.count);
-            seen = w.seen;
+            let mut points = [0.0; 256];
+            let mut at = slot;
+            let mut count = 0;
+            let mut end = 128;
+            while count < end {
+                let here = ring::choose(at < 128, at, 0);
+                let own = lines::edge_or(at < 128, edges[here]);
+                let previous = own.previous;
+                let next = own.next;
+                let before = lines::edge_or(
+                    previous < 128,
+                    edges[ring::choose(previous < 128, previous, 0)],
+                );
+                let vertex = finishing::placed(before.line, own, d, origin);
+                match vertex {
+                    Place::Nowhere => return pieces_refused(Refusal::Splits(d)),
+                    Place::There(p) => {
+                        seen[here] = seen[here] | (at < 128);
+                        points[2 * count] = p.east;
+                        points[2 * count + 1] = p.north;
+                        at = next;
+                        count += 1;
+                        end = ring::choose(next == slot, count, 128);
+                    }
+                }
+            }
+            let piece = offset_piece(128, place, d, tolerance, false, &points, count);
             place += 1;
             match piece {
                 Piece::Shrunk => {}
                 Piece::Failed(r) => return pieces_refused(r),
                 Piece::Whole(n, back) => {
-                    let area = measures::signed_area(&w.points, w.count);
+                    let area = measures::signed_area(&points, count);
                     let right = expected(outward, area) & !found;
                     if !right {
                         return pieces_refused(Refusal::Splits(d));
                     }
-                    let stored = polygon::store::stored_outline(&w.points, n, back);
+                    let stored = polygon::store::stored_outline(&points, n, back);
                     shape = stored;
                     found = true;
                 }

@@ -2,100 +2,201 @@
 use borrow.Author.Needs.{needs}
 use Prim.Native.Nat.{_-_, _≤_}
 use mathlib.Core.Path.{_≡_}
+use lib.ListN.{length}
 use Rattle.error.specs.declared.Refusal.the-variants.{Granted}
 use Rattle.loops.specs.Loop.{rounds}
-use Rattle.pieces.proofs.Visited.{pieces-at, visits-at, piece-step, no-visits, none-made, one-more, passes-on, shrinks, fails, keeps, another, all-passed}
+use Rattle.finishing.proofs.Walks.{slot-lt, slot-fits, edge-of, place-is}
+use Rattle.pieces.proofs.Walking.{Walking, sets-out, in-room, walk-falls, loses, walks-on}
+use Rattle.pieces.proofs.Visited.{pieces-at, visits-at, piece-step, no-visits, none-made, one-more, passes-on, shrinks, fails, lost-fails, keeps, another, all-passed}
 use Rattle.pieces.proofs.pieces.Statement.{statement}
 use Rattle.pieces.proofs.pieces.Tie as tie
 
+abbrev Inv-loop2 : tie.InvT-loop2
+Inv-loop2 origin outward d tolerance edges found shape place seen₀ first slot points₀ at₀ count₀ end₀ seen points at count end =
+    Walking edges d origin slot seen₀ seen points at count end
+
+abbrev μ-loop2 : tie.MeasureT-loop2
+μ-loop2 origin outward d tolerance edges found shape place seen₀ first slot points₀ at₀ count₀ end₀ seen points at count end =
+    128 - count
+
 abbrev Inv-loop : tie.InvT-loop
-Inv-loop origin outward d tolerance edges found₀ shape₀ place₀ seen₀ first₀ found shape place seen first = (first ≤ 128) × (place ≤ first) × (rounds (piece-step edges origin outward d tolerance) first no-visits ≡ visits-at (pieces-at Granted found shape) place seen)
+Inv-loop origin outward d tolerance edges found₀ shape₀ place₀ seen₀ first₀ found shape place seen first =
+    (first ≤ 128) × (place ≤ first) × (rounds (piece-step edges origin outward d tolerance) first no-visits ≡ visits-at (pieces-at Granted found shape) place seen) × (length seen ≡ 128)
 
 abbrev μ-loop : tie.MeasureT-loop
 μ-loop origin outward d tolerance edges found₀ shape₀ place₀ seen₀ first₀ found shape place seen first = 128 - first
 
-no-outline-requires : tie.Need-no-outline-requires Inv-loop μ-loop
+no-outline-requires : tie.Need-no-outline-requires Inv-loop2 μ-loop2 Inv-loop μ-loop
 no-outline-requires c κs = search needs
 
-loop-holds : tie.Need-loop-holds Inv-loop μ-loop
-loop-holds c = (search needs, search needs, none-made _ _ (c .no-outline .ensures))
+loop-holds : tie.Need-loop-holds Inv-loop2 μ-loop2 Inv-loop μ-loop
+loop-holds c = (search needs, search needs, none-made _ _ (c .no-outline .ensures), search needs)
 
-add-first : tie.Need-add-first Inv-loop μ-loop
+add-first : tie.Need-add-first Inv-loop2 μ-loop2 Inv-loop μ-loop
 add-first c = search needs
 
-mul-e : tie.Need-mul-e Inv-loop μ-loop
+mul-e : tie.Need-mul-e Inv-loop2 μ-loop2 Inv-loop μ-loop
 mul-e c = search needs
 
-array-copy-out-e : tie.Need-array-copy-out-e Inv-loop μ-loop
+array-copy-out-e : tie.Need-array-copy-out-e Inv-loop2 μ-loop2 Inv-loop μ-loop
 array-copy-out-e c = search needs
 
-array-read-if1 : tie.Need-array-read-if1 Inv-loop μ-loop
+array-read-if1 : tie.Need-array-read-if1 Inv-loop2 μ-loop2 Inv-loop μ-loop
 array-read-if1 c = search needs
 
-walk-requires : tie.Need-walk-requires Inv-loop μ-loop
-walk-requires c κs = search needs
+loop2-holds : tie.Need-loop2-holds Inv-loop2 μ-loop2 Inv-loop μ-loop
+loop2-holds c = sets-out _ _ _ _ _ (c .before .before .before .before .loop .inv .3)
 
-offset-piece-requires : tie.Need-offset-piece-requires Inv-loop μ-loop
-offset-piece-requires c κs = search needs
+choose-requires : tie.Need-choose-requires Inv-loop2 μ-loop2 Inv-loop μ-loop
+choose-requires c κs = search needs
 
-add-place : tie.Need-add-place Inv-loop μ-loop
-add-place c = search needs
+mul-edge-or : tie.Need-mul-edge-or Inv-loop2 μ-loop2 Inv-loop μ-loop
+mul-edge-or c = slot-fits (c .before .before .loop2 .at) _ (c .choose .ensures)
 
-enum-told : tie.Need-enum-told Inv-loop μ-loop
+array-copy-out-edge-or : tie.Need-array-copy-out-edge-or Inv-loop2 μ-loop2 Inv-loop μ-loop
+array-copy-out-edge-or c = slot-lt (c .before .before .loop2 .at) _ (c .choose .ensures)
+
+edge-or-requires : tie.Need-edge-or-requires Inv-loop2 μ-loop2 Inv-loop μ-loop
+edge-or-requires c κs = search needs
+
+choose-requires-2 : tie.Need-choose-requires-2 Inv-loop2 μ-loop2 Inv-loop μ-loop
+choose-requires-2 c κs = search needs
+
+mul-edge-or-2 : tie.Need-mul-edge-or-2 Inv-loop2 μ-loop2 Inv-loop μ-loop
+mul-edge-or-2 c = slot-fits (c .before .edge-or .result .previous) _ (c .choose2 .ensures)
+
+array-copy-out-edge-or-2 : tie.Need-array-copy-out-edge-or-2 Inv-loop2 μ-loop2 Inv-loop μ-loop
+array-copy-out-edge-or-2 c = slot-lt (c .before .edge-or .result .previous) _ (c .choose2 .ensures)
+
+edge-or-requires-2 : tie.Need-edge-or-requires-2 Inv-loop2 μ-loop2 Inv-loop μ-loop
+edge-or-requires-2 c κs = search needs
+
+placed-requires : tie.Need-placed-requires Inv-loop2 μ-loop2 Inv-loop μ-loop
+placed-requires c κs = search needs
+
+enum-told : tie.Need-enum-told Inv-loop2 μ-loop2 Inv-loop μ-loop
 enum-told c = search needs
 
-loop-less : tie.Need-loop-less Inv-loop μ-loop
-loop-less c = search needs
-
-loop-again : tie.Need-loop-again Inv-loop μ-loop
-loop-again c = (search needs, one-more _ _ (c .before .before .before .before .before .before .before .before .before .before .before .before .loop .inv .1), shrinks _ _ _ _ _ _ _ _ _ _ (search needs) (c .before .before .before .before .before .before .before .before .before .before .before .before .loop .inv .2) _ _ (c .before .before .before .before .before .before .before .before .if1 .taken) (c .before .before .before .before .before .before .before .walk .ensures) (c .before .before .before .offset-piece .ensures) (c .enum-told .given .1))
-
-enum-known-piece : tie.Need-enum-known-piece Inv-loop μ-loop
-enum-known-piece c = search needs
-
-pieces-refused-requires : tie.Need-pieces-refused-requires Inv-loop μ-loop
+pieces-refused-requires : tie.Need-pieces-refused-requires Inv-loop2 μ-loop2 Inv-loop μ-loop
 pieces-refused-requires c κs = search needs
 
-returns : tie.Need-returns Inv-loop μ-loop
-returns c = fails _ _ _ _ _ _ _ _ _ _ (search needs) (c .before .before .before .before .before .before .before .before .before .before .before .before .before .before .loop .inv .2) _ _ (c .before .before .before .before .before .before .before .before .before .before .if1 .taken) (c .before .before .before .before .before .before .before .before .before .walk .ensures) (c .before .before .before .before .before .offset-piece .ensures) _ _ (c .before .before .piece .given .1) (c .pieces-refused .ensures)
+returns : tie.Need-returns Inv-loop2 μ-loop2 Inv-loop μ-loop
+returns c = lost-fails _ _ _ _ _ _ _ _ _ _ (c .before .before .before .before .before .before .before .before .before .before .before .before .before .before .before .loop-test .taken) (c .before .before .before .before .before .before .before .before .before .before .before .before .before .before .before .before .loop .inv .2) _ _ _ _ (c .before .before .before .before .before .before .before .before .before .before .before .before .if1 .taken) (loses _ _ _ _ _ _ _ _ _ _ (c .before .before .before .before .before .before .before .before .before .before .before .loop2 .inv) (c .before .before .before .before .before .before .before .before .before .before .loop2-test .taken) (place-is _ _ _ _ _ _ _ _ (edge-of _ _ _ _ (c .before .before .before .before .before .before .before .before .before .choose .ensures) (c .before .before .before .before .before .before .before .edge-or .ensures)) (edge-of _ _ _ _ (c .before .before .before .before .before .before .choose2 .ensures) (c .before .before .before .before .edge-or2 .ensures)) (c .before .before .before .placed .ensures) (c .before .enum-told .given .1))) _ (c .pieces-refused .ensures)
 
-enum-known-piece-2 : tie.Need-enum-known-piece-2 Inv-loop μ-loop
-enum-known-piece-2 c = search needs
+enum-known-vertex : tie.Need-enum-known-vertex Inv-loop2 μ-loop2 Inv-loop μ-loop
+enum-known-vertex c = search needs
 
-signed-area-requires : tie.Need-signed-area-requires Inv-loop μ-loop
-signed-area-requires c κs = search needs
+array-read-seen : tie.Need-array-read-seen Inv-loop2 μ-loop2 Inv-loop μ-loop
+array-read-seen c = slot-lt (c .before .before .before .before .before .before .before .before .before .before .before .loop2 .at) _ (c .before .before .before .before .before .before .before .before .before .choose .ensures)
 
-expected-requires : tie.Need-expected-requires Inv-loop μ-loop
-expected-requires c κs = search needs
+array-write-seen : tie.Need-array-write-seen Inv-loop2 μ-loop2 Inv-loop μ-loop
+array-write-seen c = slot-lt (c .before .before .before .before .before .before .before .before .before .before .before .loop2 .at) _ (c .before .before .before .before .before .before .before .before .before .choose .ensures)
 
-pieces-refused-requires-2 : tie.Need-pieces-refused-requires-2 Inv-loop μ-loop
+mul-points : tie.Need-mul-points Inv-loop2 μ-loop2 Inv-loop μ-loop
+mul-points c = search (needs, in-room _ _ (c .before .before .before .before .before .before .before .before .before .before .before .loop2 .inv .room) (c .before .before .before .before .before .before .before .before .before .before .loop2-test .taken))
+
+mul-points-2 : tie.Need-mul-points-2 Inv-loop2 μ-loop2 Inv-loop μ-loop
+mul-points-2 c = search (needs, in-room _ _ (c .before .before .before .before .before .before .before .before .before .before .before .loop2 .inv .room) (c .before .before .before .before .before .before .before .before .before .before .loop2-test .taken))
+
+array-write-points : tie.Need-array-write-points Inv-loop2 μ-loop2 Inv-loop μ-loop
+array-write-points c = search (needs, in-room _ _ (c .before .before .before .before .before .before .before .before .before .before .before .loop2 .inv .room) (c .before .before .before .before .before .before .before .before .before .before .loop2-test .taken))
+
+mul-points-3 : tie.Need-mul-points-3 Inv-loop2 μ-loop2 Inv-loop μ-loop
+mul-points-3 c = search (needs, in-room _ _ (c .before .before .before .before .before .before .before .before .before .before .before .loop2 .inv .room) (c .before .before .before .before .before .before .before .before .before .before .loop2-test .taken))
+
+add-points : tie.Need-add-points Inv-loop2 μ-loop2 Inv-loop μ-loop
+add-points c = search (needs, in-room _ _ (c .before .before .before .before .before .before .before .before .before .before .before .loop2 .inv .room) (c .before .before .before .before .before .before .before .before .before .before .loop2-test .taken))
+
+mul-points-4 : tie.Need-mul-points-4 Inv-loop2 μ-loop2 Inv-loop μ-loop
+mul-points-4 c = search (needs, in-room _ _ (c .before .before .before .before .before .before .before .before .before .before .before .loop2 .inv .room) (c .before .before .before .before .before .before .before .before .before .before .loop2-test .taken))
+
+array-write-points-2 : tie.Need-array-write-points-2 Inv-loop2 μ-loop2 Inv-loop μ-loop
+array-write-points-2 c = search (needs, in-room _ _ (c .before .before .before .before .before .before .before .before .before .before .before .loop2 .inv .room) (c .before .before .before .before .before .before .before .before .before .before .loop2-test .taken))
+
+add-count : tie.Need-add-count Inv-loop2 μ-loop2 Inv-loop μ-loop
+add-count c = search (needs, in-room _ _ (c .before .before .before .before .before .before .before .before .before .before .before .loop2 .inv .room) (c .before .before .before .before .before .before .before .before .before .before .loop2-test .taken))
+
+choose-requires-3 : tie.Need-choose-requires-3 Inv-loop2 μ-loop2 Inv-loop μ-loop
+choose-requires-3 c κs = search needs
+
+loop2-less : tie.Need-loop2-less Inv-loop2 μ-loop2 Inv-loop μ-loop
+loop2-less c = walk-falls _ _ (c .before .before .before .before .before .before .before .before .before .before .before .before .loop2 .inv .room) (c .before .before .before .before .before .before .before .before .before .before .before .loop2-test .taken)
+
+loop2-again : tie.Need-loop2-again Inv-loop2 μ-loop2 Inv-loop μ-loop
+loop2-again c = walks-on _ _ _ _ _ _ _ _ _ _ (c .before .before .before .before .before .before .before .before .before .before .before .before .loop2 .inv) (c .before .before .before .before .before .before .before .before .before .before .before .loop2-test .taken) _ _ _ (c .before .before .before .before .before .before .before .before .before .before .choose .ensures) (edge-of _ _ _ _ (c .before .before .before .before .before .before .before .before .before .before .choose .ensures) (c .before .before .before .before .before .before .before .before .edge-or .ensures)) (place-is _ _ _ _ _ _ _ _ (edge-of _ _ _ _ (c .before .before .before .before .before .before .before .before .before .before .choose .ensures) (c .before .before .before .before .before .before .before .before .edge-or .ensures)) (edge-of _ _ _ _ (c .before .before .before .before .before .before .before .choose2 .ensures) (c .before .before .before .before .before .edge-or2 .ensures)) (c .before .before .before .before .placed .ensures) (c .before .before .vertex .given .1)) _ (c .choose3 .ensures)
+
+slice-aggregate-offset-piece : tie.Need-slice-aggregate-offset-piece Inv-loop2 μ-loop2 Inv-loop μ-loop
+slice-aggregate-offset-piece c = search (needs, c .before .before .loop2 .inv .wide)
+
+offset-piece-requires : tie.Need-offset-piece-requires Inv-loop2 μ-loop2 Inv-loop μ-loop
+offset-piece-requires c κs = search needs
+
+add-place : tie.Need-add-place Inv-loop2 μ-loop2 Inv-loop μ-loop
+add-place c = search needs
+
+enum-told-2 : tie.Need-enum-told-2 Inv-loop2 μ-loop2 Inv-loop μ-loop
+enum-told-2 c = search needs
+
+loop-less : tie.Need-loop-less Inv-loop2 μ-loop2 Inv-loop μ-loop
+loop-less c = search needs
+
+loop-again : tie.Need-loop-again Inv-loop2 μ-loop2 Inv-loop μ-loop
+loop-again c = (search needs, one-more _ _ (c .before .before .before .before .before .before .before .before .before .before .loop .inv .1), shrinks _ _ _ _ _ _ _ _ _ _ (c .before .before .before .before .before .before .before .before .before .loop-test .taken) (c .before .before .before .before .before .before .before .before .before .before .loop .inv .2) _ _ (c .before .before .before .before .before .before .if1 .taken) (c .before .before .before .before .before .loop2 .inv .done (c .before .before .before .before .loop2-test .left) .1) (c .before .before .offset-piece .ensures) (c .enum-told2 .given .1), c .before .before .before .before .before .loop2 .inv .long)
+
+enum-known-piece : tie.Need-enum-known-piece Inv-loop2 μ-loop2 Inv-loop μ-loop
+enum-known-piece c = search needs
+
+pieces-refused-requires-2 : tie.Need-pieces-refused-requires-2 Inv-loop2 μ-loop2 Inv-loop μ-loop
 pieces-refused-requires-2 c κs = search needs
 
-returns-2 : tie.Need-returns-2 Inv-loop μ-loop
-returns-2 c = another _ _ _ _ _ _ _ _ _ _ (search needs) (c .before .before .before .before .before .before .before .before .before .before .before .before .before .before .before .before .before .before .before .before .loop .inv .2) _ _ (c .before .before .before .before .before .before .before .before .before .before .before .before .before .before .before .before .if1 .taken) (c .before .before .before .before .before .before .before .before .before .before .before .before .before .before .before .walk .ensures) (c .before .before .before .before .before .before .before .before .before .before .before .offset-piece .ensures) _ _ (c .before .before .before .before .before .before .before .before .piece2 .given .1) _ _ (c .before .before .before .signed-area .ensures) (c .before .before .expected .ensures) _ (c .before .if2 .taken) (c .pieces-refused2 .ensures)
+returns-2 : tie.Need-returns-2 Inv-loop2 μ-loop2 Inv-loop μ-loop
+returns-2 c = fails _ _ _ _ _ _ _ _ _ _ (c .before .before .before .before .before .before .before .before .before .before .before .loop-test .taken) (c .before .before .before .before .before .before .before .before .before .before .before .before .loop .inv .2) _ _ (c .before .before .before .before .before .before .before .before .if1 .taken) (c .before .before .before .before .before .before .before .loop2 .inv .done (c .before .before .before .before .before .before .loop2-test .left) .1) (c .before .before .before .before .offset-piece .ensures) _ _ (c .before .before .piece .given .1) (c .pieces-refused2 .ensures)
 
-stored-outline-requires : tie.Need-stored-outline-requires Inv-loop μ-loop
+enum-known-piece-2 : tie.Need-enum-known-piece-2 Inv-loop2 μ-loop2 Inv-loop μ-loop
+enum-known-piece-2 c = search needs
+
+slice-aggregate-signed-area : tie.Need-slice-aggregate-signed-area Inv-loop2 μ-loop2 Inv-loop μ-loop
+slice-aggregate-signed-area c = search (needs, c .before .before .before .before .before .before .before .loop2 .inv .wide)
+
+signed-area-requires : tie.Need-signed-area-requires Inv-loop2 μ-loop2 Inv-loop μ-loop
+signed-area-requires c κs = search needs
+
+expected-requires : tie.Need-expected-requires Inv-loop2 μ-loop2 Inv-loop μ-loop
+expected-requires c κs = search needs
+
+pieces-refused-requires-3 : tie.Need-pieces-refused-requires-3 Inv-loop2 μ-loop2 Inv-loop μ-loop
+pieces-refused-requires-3 c κs = search needs
+
+returns-3 : tie.Need-returns-3 Inv-loop2 μ-loop2 Inv-loop μ-loop
+returns-3 c = another _ _ _ _ _ _ _ _ _ _ (c .before .before .before .before .before .before .before .before .before .before .before .before .before .before .before .loop-test .taken) (c .before .before .before .before .before .before .before .before .before .before .before .before .before .before .before .before .loop .inv .2) _ _ (c .before .before .before .before .before .before .before .before .before .before .before .before .if1 .taken) (c .before .before .before .before .before .before .before .before .before .before .before .loop2 .inv .done (c .before .before .before .before .before .before .before .before .before .before .loop2-test .left) .1) (c .before .before .before .before .before .before .before .before .offset-piece .ensures) _ _ (c .before .before .before .before .before .before .piece2 .given .1) _ _ (c .before .before .before .signed-area .ensures) (c .before .before .expected .ensures) _ (c .before .if2 .taken) (c .pieces-refused3 .ensures)
+
+slice-aggregate-stored-outline : tie.Need-slice-aggregate-stored-outline Inv-loop2 μ-loop2 Inv-loop μ-loop
+slice-aggregate-stored-outline c = search (needs, c .before .before .before .before .before .before .before .before .before .before .before .loop2 .inv .wide)
+
+stored-outline-requires : tie.Need-stored-outline-requires Inv-loop2 μ-loop2 Inv-loop μ-loop
 stored-outline-requires c κs = search needs
 
-loop-less-2 : tie.Need-loop-less-2 Inv-loop μ-loop
+loop-less-2 : tie.Need-loop-less-2 Inv-loop2 μ-loop2 Inv-loop μ-loop
 loop-less-2 c = search needs
 
-loop-again-2 : tie.Need-loop-again-2 Inv-loop μ-loop
-loop-again-2 c = (search needs, one-more _ _ (c .before .before .before .before .before .before .before .before .before .before .before .before .before .before .before .before .before .before .before .before .before .before .before .loop .inv .1), keeps _ _ _ _ _ _ _ _ _ _ (search needs) (c .before .before .before .before .before .before .before .before .before .before .before .before .before .before .before .before .before .before .before .before .before .before .before .loop .inv .2) _ _ (c .before .before .before .before .before .before .before .before .before .before .before .before .before .before .before .before .before .before .before .if1 .taken) (c .before .before .before .before .before .before .before .before .before .before .before .before .before .before .before .before .before .before .walk .ensures) (c .before .before .before .before .before .before .before .before .before .before .before .before .before .before .offset-piece .ensures) _ _ (c .before .before .before .before .before .before .before .before .before .before .before .piece2 .given .1) _ _ (c .before .before .before .before .before .before .signed-area .ensures) (c .before .before .before .before .before .expected .ensures) _ (c .before .before .before .before .if2 .left) (c .stored-outline .ensures))
+loop-again-2 : tie.Need-loop-again-2 Inv-loop2 μ-loop2 Inv-loop μ-loop
+loop-again-2 c = (search needs, one-more _ _ (c .before .before .before .before .before .before .before .before .before .before .before .before .before .before .before .before .before .loop .inv .1), keeps _ _ _ _ _ _ _ _ _ _ (c .before .before .before .before .before .before .before .before .before .before .before .before .before .before .before .before .loop-test .taken) (c .before .before .before .before .before .before .before .before .before .before .before .before .before .before .before .before .before .loop .inv .2) _ _ (c .before .before .before .before .before .before .before .before .before .before .before .before .before .if1 .taken) (c .before .before .before .before .before .before .before .before .before .before .before .before .loop2 .inv .done (c .before .before .before .before .before .before .before .before .before .before .before .loop2-test .left) .1) (c .before .before .before .before .before .before .before .before .before .offset-piece .ensures) _ _ (c .before .before .before .before .before .before .before .piece2 .given .1) _ _ (c .before .before .before .before .signed-area .ensures) (c .before .before .before .expected .ensures) _ (c .before .before .if2 .left) (c .stored-outline .ensures), c .before .before .before .before .before .before .before .before .before .before .before .before .loop2 .inv .long)
 
-loop-less-3 : tie.Need-loop-less-3 Inv-loop μ-loop
+loop-less-3 : tie.Need-loop-less-3 Inv-loop2 μ-loop2 Inv-loop μ-loop
 loop-less-3 c = search needs
 
-loop-again-3 : tie.Need-loop-again-3 Inv-loop μ-loop
-loop-again-3 c = (search needs, search needs, passes-on _ _ _ _ _ _ _ _ _ _ (search needs) (c .before .before .before .before .loop .inv .2) (c .if1 .left))
+loop-again-3 : tie.Need-loop-again-3 Inv-loop2 μ-loop2 Inv-loop μ-loop
+loop-again-3 c = (search needs, search needs, passes-on _ _ _ _ _ _ _ _ _ _ (c .before .before .before .loop-test .taken) (c .before .before .before .before .loop .inv .2) (c .if1 .left), c .before .before .before .before .loop .inv .3)
 
-returns-3 : tie.Need-returns-3 Inv-loop μ-loop
-returns-3 c = all-passed _ _ _ _ _ _ _ _ _ (c .before .loop .inv .0) (c .loop-test .left) (c .before .loop .inv .2)
+returns-4 : tie.Need-returns-4 Inv-loop2 μ-loop2 Inv-loop μ-loop
+returns-4 c = all-passed _ _ _ _ _ _ _ _ _ (c .before .loop .inv .0) (c .loop-test .left) (c .before .loop .inv .2)
 
 pub pieces-spec : {M : Type 1} → statement M
 pieces-spec =
     tie.close
     (tie.spec
+    Inv-loop2
+    μ-loop2
     Inv-loop
     μ-loop
     no-outline-requires
@@ -104,23 +205,52 @@ pieces-spec =
     mul-e
     array-copy-out-e
     array-read-if1
-    walk-requires
+    loop2-holds
+    choose-requires
+    mul-edge-or
+    array-copy-out-edge-or
+    edge-or-requires
+    choose-requires-2
+    mul-edge-or-2
+    array-copy-out-edge-or-2
+    edge-or-requires-2
+    placed-requires
+    enum-told
+    pieces-refused-requires
+    returns
+    enum-known-vertex
+    array-read-seen
+    array-write-seen
+    mul-points
+    mul-points-2
+    array-write-points
+    mul-points-3
+    add-points
+    mul-points-4
+    array-write-points-2
+    add-count
+    choose-requires-3
+    loop2-less
+    loop2-again
+    slice-aggregate-offset-piece
     offset-piece-requires
     add-place
-    enum-told
+    enum-told-2
     loop-less
     loop-again
     enum-known-piece
-    pieces-refused-requires
-    returns
-    enum-known-piece-2
-    signed-area-requires
-    expected-requires
     pieces-refused-requires-2
     returns-2
+    enum-known-piece-2
+    slice-aggregate-signed-area
+    signed-area-requires
+    expected-requires
+    pieces-refused-requires-3
+    returns-3
+    slice-aggregate-stored-outline
     stored-outline-requires
     loop-less-2
     loop-again-2
     loop-less-3
     loop-again-3
-    returns-3)
+    returns-4)
