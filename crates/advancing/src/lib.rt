@@ -34,20 +34,20 @@ pub enum Act {
 }
 
 // How many slots a front has. Nothing is copied for it.
-pub fn slots(edges: [Edge; 128]) -> usize
+pub(crate) fn slots(edges: [Edge; 128]) -> usize
     ensures { λ r. ⌜ (r ≡ 128) × (length edges ≡ 128) ⌝ }
 {
     128
 }
 
 // An event that falls on the distance, or beyond it, ends the walk before it.
-pub fn in_time(d: f64, t: f64, p: Plan) -> Plan
+pub(crate) fn in_time(d: f64, t: f64, p: Plan) -> Plan
     ensures { λ r. ⌜ r ≡ cond (le d t) End p ⌝ }
 {
     if d <= t { Plan::End } else { p }
 }
 
-pub fn plan_of(d: f64, travelled: f64, e: Event) -> Plan
+pub(crate) fn plan_of(d: f64, travelled: f64, e: Event) -> Plan
     ensures { λ r. ⌜ r ≡ Turning.plan-of d travelled e ⌝ }
 {
     match e {
@@ -65,7 +65,7 @@ pub fn plan_of(d: f64, travelled: f64, e: Event) -> Plan
 }
 
 // What a plan does.
-pub fn act_by(p: Plan) -> Act
+pub(crate) fn act_by(p: Plan) -> Act
     ensures { λ r. ⌜ r ≡ Acts.act-by p ⌝ }
 {
     match p {
@@ -77,7 +77,7 @@ pub fn act_by(p: Plan) -> Act
 }
 
 // What is done, by what tidying finds, or else by the event.
-pub fn act_of(d: f64, travelled: f64, found: Tidy, e: Event) -> Act
+pub(crate) fn act_of(d: f64, travelled: f64, found: Tidy, e: Event) -> Act
     ensures { λ r. ⌜ r ≡ Acts.act-of travelled found (Turning.plan-of d travelled e) ⌝ }
 {
     match found {

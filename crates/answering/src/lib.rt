@@ -18,14 +18,14 @@ pub struct Answered {
 }
 
 // Number k of the counts; 0 past their end.
-pub fn count_at(counts: &[usize], k: usize) -> usize
+pub(crate) fn count_at(counts: &[usize], k: usize) -> usize
     ensures { λ r. ⌜ r ≡ getD (now (counts .entry)) k 0 ⌝ }
 {
     if k < counts.len() { counts[k] } else { 0 }
 }
 
 // Whether each of the first counts is at most 32.
-pub fn holes_fit(counts: &[usize], holes: usize) -> bool
+pub(crate) fn holes_fit(counts: &[usize], holes: usize) -> bool
     ensures { λ r. ⌜ r ≡ Writing.holes-fit (now (counts .entry)) holes ⌝ }
 {
     let mut fit = true;

@@ -23,7 +23,7 @@ pub fn high(a: PlanarPoint, b: PlanarPoint) -> PlanarPoint
 }
 
 // Whether the segment from p to q lies beside the box from l to h.
-pub fn beside(l: PlanarPoint, h: PlanarPoint, p: PlanarPoint, q: PlanarPoint) -> bool
+pub(crate) fn beside(l: PlanarPoint, h: PlanarPoint, p: PlanarPoint, q: PlanarPoint) -> bool
     ensures { λ r. ⌜ r ≡ Quick.beside l h p q ⌝ }
 {
     if math::choose(q.east < p.east, p.east, q.east) < l.east {
@@ -39,7 +39,7 @@ pub fn beside(l: PlanarPoint, h: PlanarPoint, p: PlanarPoint, q: PlanarPoint) ->
 }
 
 // Whether two cross products do not tell two sides.
-pub fn one_side(d: f64, e: f64) -> bool
+pub(crate) fn one_side(d: f64, e: f64) -> bool
     ensures { λ r. ⌜ r ≡ Quick.one-side d e ⌝ }
 {
     if (0.0 < d) ^ (0.0 < e) {

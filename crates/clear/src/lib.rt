@@ -22,7 +22,7 @@ pub fn right_side(outward: bool, c: Containment) -> bool
 }
 
 // Whether the gap between p and the edge ab is below `least`. A root is taken only where the squares do not tell.
-pub fn falls_short(p: PlanarPoint, a: PlanarPoint, b: PlanarPoint, least: f64) -> bool
+pub(crate) fn falls_short(p: PlanarPoint, a: PlanarPoint, b: PlanarPoint, least: f64) -> bool
     ensures { λ r. ⌜ r ≡ Gaps.falls-short p a b least ⌝ }
 {
     let v = plane::sub(segment::closest_on_segment(p, a, b), p);
@@ -50,7 +50,7 @@ pub fn gap_reaches(ps: &[f64], n: usize, p: PlanarPoint, least: f64) -> bool
 }
 
 // Whether p is on the right side of the ring and at least `least` from it. The side is the cheaper question.
-pub fn clear_of(outward: bool, least: f64, ps: &[f64], n: usize, p: PlanarPoint) -> bool
+pub(crate) fn clear_of(outward: bool, least: f64, ps: &[f64], n: usize, p: PlanarPoint) -> bool
     ensures { λ r. ⌜ r ≡ Offsets.clear-of outward least (now (ps .entry)) n p ⌝ }
 {
     if right_side(outward, contain::ring_contains(ps, n, p)) {
@@ -60,7 +60,7 @@ pub fn clear_of(outward: bool, least: f64, ps: &[f64], n: usize, p: PlanarPoint)
 }
 
 // Whether every vertex of the second ring is clear of the first.
-pub fn keeps_clear<'a>(
+pub(crate) fn keeps_clear<'a>(
     outward: bool,
     least: f64,
     ps: &'a [f64],

@@ -7,14 +7,14 @@ use plane::Containment;
 use plane::PlanarPoint;
 
 // a where the test holds, else b.
-pub fn choose(test: bool, a: Containment, b: Containment) -> Containment
+pub(crate) fn choose(test: bool, a: Containment, b: Containment) -> Containment
     ensures { λ r. ⌜ r ≡ cond test a b ⌝ }
 {
     if test { a } else { b }
 }
 
 // Whether the ray from p to the east passes the edge ab, which is half-open in north.
-pub fn passes(a: PlanarPoint, b: PlanarPoint, p: PlanarPoint) -> bool
+pub(crate) fn passes(a: PlanarPoint, b: PlanarPoint, p: PlanarPoint) -> bool
     ensures { λ r. ⌜ r ≡ Contains.passes a b p ⌝ }
 {
     let east = a.east + (p.north - a.north) / (b.north - a.north) * (b.east - a.east);
@@ -22,14 +22,14 @@ pub fn passes(a: PlanarPoint, b: PlanarPoint, p: PlanarPoint) -> bool
 }
 
 // Whether p lies on the edge ab.
-pub fn on_edge(p: PlanarPoint, a: PlanarPoint, b: PlanarPoint) -> bool
+pub(crate) fn on_edge(p: PlanarPoint, a: PlanarPoint, b: PlanarPoint) -> bool
     ensures { λ r. ⌜ r ≡ Segments.touches (Segments.turn a b p) a b p ⌝ }
 {
     segment::touches(segment::orient(a, b, p), a, b, p)
 }
 
 // Whether a point of the north p is south of both ends of an edge, or north of both: a and b are their norths.
-pub fn beside(a: f64, b: f64, p: f64) -> bool
+pub(crate) fn beside(a: f64, b: f64, p: f64) -> bool
     ensures { λ r. ⌜ r ≡ Contains.beside a b p ⌝ }
 {
     ((p < a) & (p < b)) | ((a < p) & (b < p))

@@ -8,7 +8,7 @@ ghost use Rattle.jobs.specs.Fields.{comma};
 ghost use Rattle.digits.specs.Stores.{put};
 
 // The byte of a hexadecimal digit, the last of n.
-pub fn hex_digit(n: u64) -> u8
+pub(crate) fn hex_digit(n: u64) -> u8
     ensures { λ r. ⌜ r ≡ Numerals.hex-digit (n % 16) ⌝ }
 {
     let d = (n % 16) as u8;
@@ -16,7 +16,7 @@ pub fn hex_digit(n: u64) -> u8
 }
 
 // The byte of a decimal digit, the last of n.
-pub fn decimal_digit(n: usize) -> u8
+pub(crate) fn decimal_digit(n: usize) -> u8
     ensures { λ r. ⌜ r ≡ Numerals.decimal-digit (n % 10) ⌝ }
 {
     let d = (n % 10) as u8;
@@ -24,7 +24,7 @@ pub fn decimal_digit(n: usize) -> u8
 }
 
 // The bits that a float prints as: none of a zero, of either sign.
-pub fn printed_bits(x: f64) -> u64
+pub(crate) fn printed_bits(x: f64) -> u64
     ensures { λ r. ⌜ r ≡ Numerals.printed-bits x ⌝ }
 {
     if x != x {
@@ -37,7 +37,7 @@ pub fn printed_bits(x: f64) -> u64
 }
 
 // A comma and the 16 digits of a pattern.
-pub fn bits_field(bits: u64) -> [u8; 17]
+pub(crate) fn bits_field(bits: u64) -> [u8; 17]
     ensures { λ r. ⌜ r ≡ comma ∷ Numerals.bits-digits bits ⌝ }
 {
     [

@@ -15,7 +15,7 @@ pub struct Counted {
     pub count: usize,
 }
 
-pub fn check_if(ps: &[f64], r: Refusal) -> Checked
+pub(crate) fn check_if(ps: &[f64], r: Refusal) -> Checked
     ensures { λ x. ⌜ x ≡ Direct.check-if (now (ps .entry)) r ⌝ }
 {
     if r.granted() {
@@ -26,7 +26,7 @@ pub fn check_if(ps: &[f64], r: Refusal) -> Checked
 }
 
 // Questions 1, 2 and 4 to 9.
-pub fn check_numbers(ps: &[f64]) -> Checked
+pub(crate) fn check_numbers(ps: &[f64]) -> Checked
     ensures { λ r. ⌜ r ≡ Direct.check-numbers (now (ps .entry)) ⌝ }
 {
     if ps.len() % 2 == 0 {

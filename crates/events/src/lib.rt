@@ -41,14 +41,14 @@ pub struct Corner {
 }
 
 // How fast a vertex with velocity v leaves an edge's line behind: below 0 it comes to it.
-pub fn closing(target: Edge, v: PlanarPoint) -> f64
+pub(crate) fn closing(target: Edge, v: PlanarPoint) -> f64
     ensures { λ r. ⌜ r ≡ Found.closing target v ⌝ }
 {
     plane::dot(lines::normal(target.line), v) - 1.0
 }
 
 // After which step a vertex at p comes to an edge's line, at this speed.
-pub fn step_to(target: Edge, p: PlanarPoint, t: f64, speed: f64) -> f64
+pub(crate) fn step_to(target: Edge, p: PlanarPoint, t: f64, speed: f64) -> f64
     ensures { λ r. ⌜ r ≡ Found.step-to target p t speed ⌝ }
 {
     let line = target.line;
@@ -56,7 +56,7 @@ pub fn step_to(target: Edge, p: PlanarPoint, t: f64, speed: f64) -> f64
 }
 
 // Whether p lies between two points along u, with the slack.
-pub fn within(u: PlanarPoint, p: PlanarPoint, from: PlanarPoint, to: PlanarPoint) -> bool
+pub(crate) fn within(u: PlanarPoint, p: PlanarPoint, from: PlanarPoint, to: PlanarPoint) -> bool
     ensures { λ r. ⌜ r ≡ NextEvent.hit-within u p from to ⌝ }
 {
     let past = plane::dot(u, plane::sub(p, from));
@@ -65,7 +65,7 @@ pub fn within(u: PlanarPoint, p: PlanarPoint, from: PlanarPoint, to: PlanarPoint
 }
 
 // Whether a vertex that has come to an edge's line at p hits the edge, given the edge's vertices there.
-pub fn strike(target: Edge, p: PlanarPoint, from: Vertex, to: Vertex) -> Struck
+pub(crate) fn strike(target: Edge, p: PlanarPoint, from: Vertex, to: Vertex) -> Struck
     ensures { λ r. ⌜ r ≡ Found.strike target p from to ⌝ }
 {
     let u = lines::direction(target.line);
@@ -88,7 +88,7 @@ pub fn strike(target: Edge, p: PlanarPoint, from: Vertex, to: Vertex) -> Struck
 }
 
 // When an edge of this length is gone, if it shrinks.
-pub fn shrink(length: Length, shrinks: bool, soon: f64) -> Gone
+pub(crate) fn shrink(length: Length, shrinks: bool, soon: f64) -> Gone
     ensures { λ r. ⌜ r ≡ Found.shrink length shrinks soon ⌝ }
 {
     match length {
@@ -108,7 +108,7 @@ pub fn shrink(length: Length, shrinks: bool, soon: f64) -> Gone
     }
 }
 
-pub fn corner_of(vertex: Vertex) -> Corner
+pub(crate) fn corner_of(vertex: Vertex) -> Corner
     ensures { λ r. ⌜ r ≡ Found.corner-of vertex ⌝ }
 {
     let origin = PlanarPoint {
@@ -125,7 +125,7 @@ pub fn corner_of(vertex: Vertex) -> Corner
 }
 
 // Whether the front turns right from one line to the next.
-pub fn reflex(a: Line, b: Line) -> bool
+pub(crate) fn reflex(a: Line, b: Line) -> bool
     ensures { λ r. ⌜ r ≡ Found.reflex a b ⌝ }
 {
     let turn = plane::cross(lines::direction(a), lines::direction(b));
@@ -133,7 +133,7 @@ pub fn reflex(a: Line, b: Line) -> bool
 }
 
 // The event that was found: a split goes before a collapse only if it is sooner by more than the slack.
-pub fn event_of(
+pub(crate) fn event_of(
     t: f64,
     shrinks: bool,
     gone: usize,
@@ -157,14 +157,14 @@ pub fn event_of(
 }
 
 // The start vertex of an edge at offset t, and its velocity, given the edge before it.
-pub fn start_of(before: Edge, e: Edge, t: f64) -> Vertex
+pub(crate) fn start_of(before: Edge, e: Edge, t: f64) -> Vertex
     ensures { λ r. ⌜ r ≡ Found.start-of before e t ⌝ }
 {
     lines::vertex_by(before.line, e, t)
 }
 
 // A live edge e, with its next, `after`, and the edge before each of them.
-pub fn turn_at(
+pub(crate) fn turn_at(
     before: Edge,
     e: Edge,
     back: Edge,
@@ -192,7 +192,7 @@ pub fn turn_at(
 }
 
 // A vertex at p with velocity v comes after a step to the line of an edge, `target`, with its next, `after`, and the edge before each of them.
-pub fn strike_at(
+pub(crate) fn strike_at(
     before: Edge,
     target: Edge,
     back: Edge,

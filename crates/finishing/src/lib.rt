@@ -12,7 +12,7 @@ use front::Walk;
 use plane::PlanarPoint;
 
 // A point from the origin of the front, in plane coordinates.
-pub fn from_origin(p: PlanarPoint, origin: PlanarPoint) -> PlanarPoint
+pub(crate) fn from_origin(p: PlanarPoint, origin: PlanarPoint) -> PlanarPoint
     ensures { λ r. ⌜ r ≡ Placed.from-origin p origin ⌝ }
 {
     PlanarPoint {
@@ -22,7 +22,7 @@ pub fn from_origin(p: PlanarPoint, origin: PlanarPoint) -> PlanarPoint
 }
 
 // A point, if it is finite.
-pub fn finite_place(p: PlanarPoint) -> Place
+pub(crate) fn finite_place(p: PlanarPoint) -> Place
     ensures { λ r. ⌜ r ≡ Placed.finite-place p ⌝ }
 {
     lines::place_unless(!(math::finite(p.east) & math::finite(p.north)), p)

@@ -76,7 +76,7 @@ pub fn no_region() -> Region
 }
 
 // Question 21 of one hole.
-pub fn proper_hole<'a>(qs: &'a [f64], cs: &'a [usize], k: usize) -> bool
+pub(crate) fn proper_hole<'a>(qs: &'a [f64], cs: &'a [usize], k: usize) -> bool
     ensures { λ r. ⌜ r ≡ Given.proper-hole (now (qs .entry)) (now (cs .entry)) k ⌝ }
 {
     let n = count_at(cs, k);

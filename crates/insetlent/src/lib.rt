@@ -8,7 +8,7 @@ use region::RegionOffset;
 use region::RegionWritten;
 
 // What was written, and the events of the inset that gave it.
-pub fn inset_told(a: RegionOffset, w: RegionWritten) -> InsetWritten
+pub(crate) fn inset_told(a: RegionOffset, w: RegionWritten) -> InsetWritten
     ensures { λ r. ⌜ r ≡ Queries.inset-told a w ⌝ }
 {
     let refusal = w.refusal;

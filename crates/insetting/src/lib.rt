@@ -14,7 +14,12 @@ use region::Region;
 use region::RegionOffset;
 
 // An answer beside which the shape is empty, with the events that were completed before.
-pub fn inset_refused(u: Refusal, collapses: usize, divides: usize, joins: usize) -> RegionOffset
+pub(crate) fn inset_refused(
+    u: Refusal,
+    collapses: usize,
+    divides: usize,
+    joins: usize,
+) -> RegionOffset
     ensures { λ r. ⌜ r ≡ Refused.inset-refused u collapses divides joins ⌝ }
 {
     RegionOffset {
@@ -27,7 +32,7 @@ pub fn inset_refused(u: Refusal, collapses: usize, divides: usize, joins: usize)
 }
 
 // What the front that has come to the distance gives, and the events that the sweep completed.
-pub fn inset_from<'a>(
+pub(crate) fn inset_from<'a>(
     ps: &'a [f64],
     n: usize,
     hs: &'a [f64],
@@ -82,7 +87,7 @@ pub fn inset_from<'a>(
 }
 
 // An answer without a sweep.
-pub fn region_plain(u: Refusal, r: Region) -> RegionOffset
+pub(crate) fn region_plain(u: Refusal, r: Region) -> RegionOffset
     ensures { λ x. ⌜ x ≡ Insets.region-plain u r ⌝ }
 {
     RegionOffset {

@@ -12,7 +12,7 @@ use region::Region;
 use region::RegionOffset;
 
 // A refused job: the shape is empty.
-pub fn refused(r: Refusal) -> RegionOffset
+pub(crate) fn refused(r: Refusal) -> RegionOffset
     ensures { λ x. ⌜ x ≡ Jobs.job-refused r ⌝ }
 {
     RegionOffset {
@@ -25,7 +25,7 @@ pub fn refused(r: Refusal) -> RegionOffset
 }
 
 // An outline's offset, as a region without holes.
-pub fn as_region(r: Offset) -> RegionOffset
+pub(crate) fn as_region(r: Offset) -> RegionOffset
     ensures { λ x. ⌜ x ≡ Jobs.as-region r ⌝ }
 {
     let u = r.refusal;
@@ -45,7 +45,7 @@ pub fn as_region(r: Offset) -> RegionOffset
 }
 
 // Questions 13 to 19 of an outline that has passed 4 to 9.
-pub fn job_outline(outward: bool, d: f64, o: NewOutline) -> RegionOffset
+pub(crate) fn job_outline(outward: bool, d: f64, o: NewOutline) -> RegionOffset
     ensures { λ x. ⌜ x ≡ Jobs.job-outline outward d o ⌝ }
 {
     let u = o.refusal;
@@ -58,7 +58,7 @@ pub fn job_outline(outward: bool, d: f64, o: NewOutline) -> RegionOffset
 }
 
 // Questions 13 to 19 of a region that has passed 4 to 12.
-pub fn job_region(d: f64, r: NewRegion) -> RegionOffset
+pub(crate) fn job_region(d: f64, r: NewRegion) -> RegionOffset
     ensures { λ x. ⌜ x ≡ Jobs.job-region d r ⌝ }
 {
     let u = r.refusal;
@@ -71,7 +71,12 @@ pub fn job_region(d: f64, r: NewRegion) -> RegionOffset
 }
 
 // Question 3, then the rings: one is an outline, more are a region.
-pub fn job_fitting<'a>(outward: bool, d: f64, lengths: &'a [usize], ps: &'a [f64]) -> RegionOffset
+pub(crate) fn job_fitting<'a>(
+    outward: bool,
+    d: f64,
+    lengths: &'a [usize],
+    ps: &'a [f64],
+) -> RegionOffset
     ensures { λ x. ⌜ x ≡ Fitting.job-fitting outward d (now (lengths .entry)) (now (ps .entry)) ⌝ }
 {
     if ringload::lengths_fit(lengths, ps) {
@@ -88,7 +93,7 @@ pub fn job_fitting<'a>(outward: bool, d: f64, lengths: &'a [usize], ps: &'a [f64
 }
 
 // r is what question 2 answers.
-pub fn job_finite<'a>(
+pub(crate) fn job_finite<'a>(
     outward: bool,
     d: f64,
     lengths: &'a [usize],

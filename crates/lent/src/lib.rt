@@ -11,7 +11,7 @@ use error::Refusal;
 use polygon::entry;
 
 // What a write of n vertices to lent output of this length answers: 21, then 20.
-pub fn ask_write(ps: &[f64], n: usize, length: usize) -> Refusal
+pub(crate) fn ask_write(ps: &[f64], n: usize, length: usize) -> Refusal
     ensures { λ r. ⌜ r ≡ Outlines.ask-ring (now (ps .entry)) n (cond (leb (2 * n) length) Granted (Short (2 * n))) ⌝ }
 {
     if n <= 128 {

@@ -17,7 +17,7 @@ use front::Vertex;
 use plane::PlanarPoint;
 
 // `Option`, as an enum: nothing where the test holds.
-pub fn line_unless(test: bool, l: Line) -> Through
+pub(crate) fn line_unless(test: bool, l: Line) -> Through
     ensures { λ r. ⌜ r ≡ cond test NoLine (Along l) ⌝ }
 {
     if test {
@@ -57,7 +57,7 @@ pub fn normal(l: Line) -> PlanarPoint
 }
 
 // The line that starts at a point, along a unit direction.
-pub fn line_along(start: PlanarPoint, u0: f64, u1: f64) -> Line
+pub(crate) fn line_along(start: PlanarPoint, u0: f64, u1: f64) -> Line
     ensures { λ r. ⌜ r ≡ Lines.line-along start u0 u1 ⌝ }
 {
     let left = PlanarPoint {
@@ -85,7 +85,7 @@ pub fn through(start: PlanarPoint, end: PlanarPoint) -> Through
 }
 
 // The velocity of the meeting point of two lines.
-pub fn velocity(a: Line, b: Line) -> Place
+pub(crate) fn velocity(a: Line, b: Line) -> Place
     ensures { λ r. ⌜ r ≡ Lines.velocity a b ⌝ }
 {
     let scale = 1.0 + plane::dot(normal(a), normal(b));
@@ -144,7 +144,7 @@ pub fn vertex_by(before: Line, e: Edge, t: f64) -> Vertex
 }
 
 // An edge's length and its rate of change, from its start p with velocity v to the end given.
-pub fn length_to(
+pub(crate) fn length_to(
     line: Line,
     p: PlanarPoint,
     v: PlanarPoint,

@@ -82,13 +82,13 @@ pub struct LwLine {
 }
 
 // How many vertices so many numbers are; an odd count is none.
-pub fn vertices(numbers: usize) -> usize
+pub(crate) fn vertices(numbers: usize) -> usize
     ensures { λ r. ⌜ r ≡ Exports.vertices numbers ⌝ }
 {
     ring::choose(numbers % 2 == 0, numbers / 2, 0)
 }
 
-pub fn place_number(c: Containment) -> usize
+pub(crate) fn place_number(c: Containment) -> usize
     ensures { λ r. ⌜ r ≡ Exports.place-number c ⌝ }
 {
     match c {
@@ -98,7 +98,7 @@ pub fn place_number(c: Containment) -> usize
     }
 }
 
-pub fn told_place(a: Placed) -> LwPlace
+pub(crate) fn told_place(a: Placed) -> LwPlace
     ensures { λ r. ⌜ r ≡ Exports.told-place a ⌝ }
 {
     let refusal = a.refusal;
@@ -111,7 +111,7 @@ pub fn told_place(a: Placed) -> LwPlace
     }
 }
 
-pub fn told_nearest(a: Neared) -> LwNearest
+pub(crate) fn told_nearest(a: Neared) -> LwNearest
     ensures { λ r. ⌜ r ≡ Exports.told-nearest a ⌝ }
 {
     let refusal = a.refusal;
@@ -126,7 +126,7 @@ pub fn told_nearest(a: Neared) -> LwNearest
     }
 }
 
-pub fn told_area(a: NewArea) -> LwArea
+pub(crate) fn told_area(a: NewArea) -> LwArea
     ensures { λ r. ⌜ r ≡ Exports.told-area a ⌝ }
 {
     let refusal = a.refusal;
@@ -138,7 +138,7 @@ pub fn told_area(a: NewArea) -> LwArea
     }
 }
 
-pub fn told_offset(a: OffsetWritten) -> LwOffset
+pub(crate) fn told_offset(a: OffsetWritten) -> LwOffset
     ensures { λ r. ⌜ r ≡ Exports.told-offset a ⌝ }
 {
     let refusal = a.refusal;
@@ -156,7 +156,7 @@ pub fn told_offset(a: OffsetWritten) -> LwOffset
     }
 }
 
-pub fn told_line(a: Answered) -> LwLine
+pub(crate) fn told_line(a: Answered) -> LwLine
     ensures { λ r. ⌜ r ≡ Exports.told-line a ⌝ }
 {
     let refusal = a.refusal;
@@ -168,13 +168,13 @@ pub fn told_line(a: Answered) -> LwLine
 }
 
 // The outline of the numbers of a shape handed in, as they are.
-pub fn given(numbers: &[f64]) -> Outline
+pub(crate) fn given(numbers: &[f64]) -> Outline
     ensures { λ r. ⌜ r ≡ Exports.given (now (numbers .entry)) ⌝ }
 {
     store::stored_outline(numbers, vertices(numbers.len()), false)
 }
 
-pub fn outline_answer(c: Carried, count: usize) -> LwOutline
+pub(crate) fn outline_answer(c: Carried, count: usize) -> LwOutline
     ensures { λ r. ⌜ r ≡ Exports.outline-answer c count ⌝ }
 {
     LwOutline {

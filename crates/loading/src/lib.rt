@@ -13,7 +13,13 @@ use front::Through;
 use plane::PlanarPoint;
 
 // Vertex k of a ring that is walked forwards or backwards, relative to the origin.
-pub fn load_vertex(ps: &[f64], n: usize, back: bool, origin: PlanarPoint, k: usize) -> PlanarPoint
+pub(crate) fn load_vertex(
+    ps: &[f64],
+    n: usize,
+    back: bool,
+    origin: PlanarPoint,
+    k: usize,
+) -> PlanarPoint
     ensures { λ r. ⌜ r ≡ Loading.load-vertex (now (ps .entry)) n back origin k ⌝ }
 {
     let at = ring::choose(back, ring::less(ring::less(n, 1), k), k);
@@ -21,7 +27,7 @@ pub fn load_vertex(ps: &[f64], n: usize, back: bool, origin: PlanarPoint, k: usi
 }
 
 // The line of edge k, from its start vertex to the next.
-pub fn load_line(
+pub(crate) fn load_line(
     ps: &[f64],
     n: usize,
     back: bool,

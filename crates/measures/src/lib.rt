@@ -33,7 +33,7 @@ pub fn area(ps: &[f64], n: usize) -> f64
 }
 
 // The box that holds v too.
-pub fn widened(b: Bounds, v: PlanarPoint) -> Bounds
+pub(crate) fn widened(b: Bounds, v: PlanarPoint) -> Bounds
     ensures { λ r. ⌜ r ≡ Measures.widened b v ⌝ }
 {
     let low = b.low;
@@ -54,13 +54,13 @@ pub fn widened(b: Bounds, v: PlanarPoint) -> Bounds
     }
 }
 
-pub fn bounds_step(ps: &[f64], k: usize, b: Bounds) -> Bounds
+pub(crate) fn bounds_step(ps: &[f64], k: usize, b: Bounds) -> Bounds
     ensures { λ r. ⌜ r ≡ Measures.bounds-step (now (ps .entry)) k b ⌝ }
 {
     widened(b, ring::vertex_at(ps, k))
 }
 
-pub fn no_bounds() -> Bounds
+pub(crate) fn no_bounds() -> Bounds
     ensures { λ r. ⌜ r ≡ Measures.no-bounds ⌝ }
 {
     let top = math::infinity();
@@ -76,7 +76,7 @@ pub fn no_bounds() -> Bounds
     }
 }
 
-pub fn diagonal(b: Bounds) -> f64
+pub(crate) fn diagonal(b: Bounds) -> f64
     ensures { λ r. ⌜ r ≡ Measures.diagonal b ⌝ }
 {
     let low = b.low;
@@ -97,7 +97,7 @@ pub fn span(ps: &[f64], n: usize) -> f64
     diagonal(s)
 }
 
-pub fn perimeter_step(ps: &[f64], n: usize, k: usize, s: f64) -> f64
+pub(crate) fn perimeter_step(ps: &[f64], n: usize, k: usize, s: f64) -> f64
     ensures { λ r. ⌜ r ≡ Measures.perimeter-step (now (ps .entry)) n k s ⌝ }
 {
     let a = ring::vertex_at(ps, k);
@@ -118,13 +118,13 @@ pub fn perimeter(ps: &[f64], n: usize) -> f64
 }
 
 // The larger coordinate, without its sign.
-pub fn reach(v: PlanarPoint) -> f64
+pub(crate) fn reach(v: PlanarPoint) -> f64
     ensures { λ r. ⌜ r ≡ Measures.reach v ⌝ }
 {
     math::max(math::abs(v.east), math::abs(v.north))
 }
 
-pub fn extent_step(ps: &[f64], k: usize, s: f64) -> f64
+pub(crate) fn extent_step(ps: &[f64], k: usize, s: f64) -> f64
     ensures { λ r. ⌜ r ≡ Measures.extent-step (now (ps .entry)) k s ⌝ }
 {
     math::max(s, reach(ring::vertex_at(ps, k)))

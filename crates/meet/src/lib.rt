@@ -31,7 +31,7 @@ pub(crate) fn pair_meets(
 }
 
 // Whether the segment from a1 to a2 meets an edge of the ring. A pair whose boxes are apart is passed by two turns.
-pub fn meets_edge(qs: &[f64], m: usize, a1: PlanarPoint, a2: PlanarPoint) -> bool
+pub(crate) fn meets_edge(qs: &[f64], m: usize, a1: PlanarPoint, a2: PlanarPoint) -> bool
     ensures { λ r. ⌜ r ≡ Meet.meets-edge (now (qs .entry)) m a1 a2 ⌝ }
 {
     let l = boxes::low(a1, a2);

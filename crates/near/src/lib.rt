@@ -23,7 +23,7 @@ pub fn clearly(v: f64, w: f64) -> bool
     (1.0000000009313226 * v < w) & (9.332636185032189e-302 < w)
 }
 
-pub fn lead_to(p: PlanarPoint, q: PlanarPoint) -> Lead
+pub(crate) fn lead_to(p: PlanarPoint, q: PlanarPoint) -> Lead
     ensures { λ r. ⌜ r ≡ Near.lead-to p q ⌝ }
 {
     let offset = plane::sub(q, p);
@@ -35,7 +35,7 @@ pub fn lead_to(p: PlanarPoint, q: PlanarPoint) -> Lead
 }
 
 // Before the first edge: p itself, infinitely far.
-pub fn no_lead(p: PlanarPoint) -> Lead
+pub(crate) fn no_lead(p: PlanarPoint) -> Lead
     ensures { λ r. ⌜ r ≡ Near.no-lead p ⌝ }
 {
     let top = math::infinity();
@@ -50,7 +50,7 @@ pub fn no_lead(p: PlanarPoint) -> Lead
 }
 
 // The candidate where its root is the smaller. Equal vectors need no roots.
-pub fn closer(candidate: Lead, best: Lead) -> Lead
+pub(crate) fn closer(candidate: Lead, best: Lead) -> Lead
     ensures { λ r. ⌜ r ≡ Near.closer candidate best ⌝ }
 {
     if plane::same(candidate.offset, best.offset) {
@@ -62,7 +62,7 @@ pub fn closer(candidate: Lead, best: Lead) -> Lead
 }
 
 // The candidate where it is nearer. Roots are taken only where the squares do not tell.
-pub fn leader(candidate: Lead, best: Lead) -> Lead
+pub(crate) fn leader(candidate: Lead, best: Lead) -> Lead
     ensures { λ r. ⌜ r ≡ Near.leader candidate best ⌝ }
 {
     if clearly(best.square, candidate.square) {
@@ -75,14 +75,14 @@ pub fn leader(candidate: Lead, best: Lead) -> Lead
 }
 
 // The lead after the edge ab.
-pub fn lead_between(p: PlanarPoint, a: PlanarPoint, b: PlanarPoint, best: Lead) -> Lead
+pub(crate) fn lead_between(p: PlanarPoint, a: PlanarPoint, b: PlanarPoint, best: Lead) -> Lead
     ensures { λ r. ⌜ r ≡ Near.lead-between p a b best ⌝ }
 {
     leader(lead_to(p, segment::closest_on_segment(p, a, b)), best)
 }
 
 // What a lead stands for.
-pub fn reached(s: Lead) -> Nearest
+pub(crate) fn reached(s: Lead) -> Nearest
     ensures { λ r. ⌜ r ≡ Near.reached s ⌝ }
 {
     let gap = plane::length_of(s.offset);
@@ -108,7 +108,7 @@ pub fn nearest_to(ps: &[f64], n: usize, p: PlanarPoint) -> Nearest
     reached(s)
 }
 
-pub fn clearance_step<'a>(ps: &'a [f64], n: usize, qs: &'a [f64], k: usize, s: f64) -> f64
+pub(crate) fn clearance_step<'a>(ps: &'a [f64], n: usize, qs: &'a [f64], k: usize, s: f64) -> f64
     ensures { λ r. ⌜ r ≡ Near.clearance-step (now (ps .entry)) n (now (qs .entry)) k s ⌝ }
 {
     let near = nearest_to(ps, n, ring::vertex_at(qs, k));

@@ -32,7 +32,7 @@ pub fn is_hex(b: u8) -> bool
     ((48 <= b) & (b <= 57)) | ((97 <= b) & (b <= 102))
 }
 
-pub fn is_decimal(b: u8) -> bool
+pub(crate) fn is_decimal(b: u8) -> bool
     ensures { λ r. ⌜ r ≡ Numerals.is-decimal b ⌝ }
 {
     (48 <= b) & (b <= 57)
@@ -47,7 +47,7 @@ pub fn hex_part(b: u8) -> usize
 }
 
 // The value of a decimal digit.
-pub fn decimal_part(b: u8) -> usize
+pub(crate) fn decimal_part(b: u8) -> usize
     ensures { λ r. ⌜ r ≡ Readings.decimal-part b ⌝ }
 {
     b as usize % 16

@@ -34,7 +34,7 @@ pub fn offset_tolerance(d: f64, extent: f64) -> f64
 }
 
 // What the pieces come to, q being the piece that is left: 16 where none is, and the last checks against the source.
-pub fn found_refusal<'a>(
+pub(crate) fn found_refusal<'a>(
     ps: &'a [f64],
     n: usize,
     outward: bool,
@@ -62,7 +62,7 @@ pub fn found_refusal<'a>(
 }
 
 // An answer beside which the shape is empty, with the events that were completed before.
-pub fn offset_refused(u: Refusal, collapses: usize, divides: usize, joins: usize) -> Offset
+pub(crate) fn offset_refused(u: Refusal, collapses: usize, divides: usize, joins: usize) -> Offset
     ensures { λ r. ⌜ r ≡ Found.offset-refused u collapses divides joins ⌝ }
 {
     Offset {
@@ -75,7 +75,7 @@ pub fn offset_refused(u: Refusal, collapses: usize, divides: usize, joins: usize
 }
 
 // The outline's front comes to the distance: what it gives, and the events that the sweep completed.
-pub fn offset_moved(ps: &[f64], n: usize, outward: bool, d: f64) -> Offset
+pub(crate) fn offset_moved(ps: &[f64], n: usize, outward: bool, d: f64) -> Offset
     ensures { λ r. ⌜ r ≡ Found.offset-moved (Found.outline-of (now (ps .entry)) n) outward d ⌝ }
 {
     let origin = ring::vertex_at(ps, 0);
@@ -114,7 +114,7 @@ pub fn offset_moved(ps: &[f64], n: usize, outward: bool, d: f64) -> Offset
 }
 
 // An answer without a sweep.
-pub fn offset_plain(r: Refusal, o: Outline) -> Offset
+pub(crate) fn offset_plain(r: Refusal, o: Outline) -> Offset
     ensures { λ x. ⌜ x ≡ Offsets.offset-plain r o ⌝ }
 {
     Offset {

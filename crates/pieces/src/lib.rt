@@ -12,7 +12,7 @@ use plane::PlanarPoint;
 use ringcheck::Checked;
 
 // A refused ring that shrank to nothing at the distance: it has next to no area.
-pub fn vanished(ps: &[f64], n: usize, tolerance: f64, r: Refusal) -> bool
+pub(crate) fn vanished(ps: &[f64], n: usize, tolerance: f64, r: Refusal) -> bool
     ensures { λ x. ⌜ x ≡ Rings.vanished (now (ps .entry)) n tolerance r ⌝ }
 {
     if r.degenerate() {
@@ -23,7 +23,7 @@ pub fn vanished(ps: &[f64], n: usize, tolerance: f64, r: Refusal) -> bool
 }
 
 // What a ring comes to, once it is checked.
-pub fn checked_piece(d: f64, tolerance: f64, ps: &[f64], n: usize, c: Checked) -> Piece
+pub(crate) fn checked_piece(d: f64, tolerance: f64, ps: &[f64], n: usize, c: Checked) -> Piece
     ensures { λ r. ⌜ r ≡ Numbers.checked-piece d tolerance (now (ps .entry)) n c ⌝ }
 {
     let refusal = c.refusal;
@@ -62,13 +62,13 @@ pub fn offset_piece(
 }
 
 // The side on which a ring's area lies: outward the outline was walked backwards.
-pub fn expected(outward: bool, signed: f64) -> bool
+pub(crate) fn expected(outward: bool, signed: f64) -> bool
     ensures { λ r. ⌜ r ≡ Offsets.expected outward signed ⌝ }
 {
     if outward { signed < 0.0 } else { 0.0 < signed }
 }
 
-pub fn pieces_refused(r: Refusal) -> Pieces
+pub(crate) fn pieces_refused(r: Refusal) -> Pieces
     ensures { λ x. ⌜ x ≡ Offsets.pieces-refused r ⌝ }
 {
     Pieces {

@@ -35,14 +35,14 @@ pub fn byte_at(bytes: &[u8], k: usize) -> u8
     if k < bytes.len() { bytes[k] } else { 0 }
 }
 
-pub fn is_inset(field: &[u8]) -> bool
+pub(crate) fn is_inset(field: &[u8]) -> bool
     ensures { λ r. ⌜ r ≡ Lines.same-bytes (now (field .entry)) Lines.inset-word ⌝ }
 {
     let ins = (byte_at(field, 0) == 105) & (byte_at(field, 1) == 110) & (byte_at(field, 2) == 115);
     (field.len() == 5) & (ins & (byte_at(field, 3) == 101) & (byte_at(field, 4) == 116))
 }
 
-pub fn is_outset(field: &[u8]) -> bool
+pub(crate) fn is_outset(field: &[u8]) -> bool
     ensures { λ r. ⌜ r ≡ Lines.same-bytes (now (field .entry)) Lines.outset-word ⌝ }
 {
     let out = (byte_at(field, 0) == 111) & (byte_at(field, 1) == 117) & (byte_at(field, 2) == 116);
@@ -51,7 +51,7 @@ pub fn is_outset(field: &[u8]) -> bool
 }
 
 // Where the field that starts at `start` ends: at a comma, or at the end of the line.
-pub fn field_end(line: &[u8], start: usize) -> usize
+pub(crate) fn field_end(line: &[u8], start: usize) -> usize
     ensures { λ r. ⌜ r ≡ Fields.field-end (now (line .entry)) start ⌝ }
 {
     let mut at = start;

@@ -22,7 +22,7 @@ pub fn check_finite(ps: &[f64]) -> Refusal
     Refusal::Granted
 }
 
-pub fn outline_if(ps: &[f64], r: Refusal) -> NewOutline
+pub(crate) fn outline_if(ps: &[f64], r: Refusal) -> NewOutline
     ensures { λ x. ⌜ x ≡ Outlines.outline-if (now (ps .entry)) r ⌝ }
 {
     if r.granted() {
@@ -33,14 +33,14 @@ pub fn outline_if(ps: &[f64], r: Refusal) -> NewOutline
 }
 
 // Whether a number is at most the largest coordinate, without its sign.
-pub fn in_reach(x: f64) -> bool
+pub(crate) fn in_reach(x: f64) -> bool
     ensures { λ r. ⌜ r ≡ le (abs x) max-coordinate ⌝ }
 {
     (-ringcheck::MAX_COORDINATE <= x) & (x <= ringcheck::MAX_COORDINATE)
 }
 
 // A number past the end is not in range.
-pub fn in_range(ps: &[f64], n: usize) -> bool
+pub(crate) fn in_range(ps: &[f64], n: usize) -> bool
     ensures { λ r. ⌜ r ≡ Outlines.in-range (now (ps .entry)) n ⌝ }
 {
     if ps.len() / 2 < n {

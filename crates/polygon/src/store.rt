@@ -45,7 +45,7 @@ pub fn refused(r: Refusal) -> NewOutline
     }
 }
 
-pub fn outline_of(ps: &[f64], c: Checked) -> NewOutline
+pub(crate) fn outline_of(ps: &[f64], c: Checked) -> NewOutline
     ensures { λ r. ⌜ r ≡ Outlines.outline-of (now (ps .entry)) c ⌝ }
 {
     let refusal = c.refusal;

@@ -72,7 +72,7 @@ pub fn told_inset(w: InsetWritten) -> LwRegionOffset
 }
 
 // No inset: no rings, and no events.
-pub fn inset_refused(r: Refusal) -> InsetWritten
+pub(crate) fn inset_refused(r: Refusal) -> InsetWritten
     ensures { λ x. ⌜ x ≡ Told.inset-refused r ⌝ }
 {
     InsetWritten {

@@ -8,20 +8,20 @@ ghost use Rattle.regioncheck.specs.Apart;
 use error::Refusal;
 use plane::PlanarPoint;
 
-pub fn inside_of(ps: &[f64], n: usize, p: PlanarPoint) -> bool
+pub(crate) fn inside_of(ps: &[f64], n: usize, p: PlanarPoint) -> bool
     ensures { λ r. ⌜ r ≡ Checks.inside-of (now (ps .entry)) n p ⌝ }
 {
     clear::right_side(false, contain::ring_contains(ps, n, p))
 }
 
-pub fn outside_of(ps: &[f64], n: usize, p: PlanarPoint) -> bool
+pub(crate) fn outside_of(ps: &[f64], n: usize, p: PlanarPoint) -> bool
     ensures { λ r. ⌜ r ≡ Clear.is-outside (Contains.ring-contains (now (ps .entry)) n p) ⌝ }
 {
     clear::right_side(true, contain::ring_contains(ps, n, p))
 }
 
 // Whether every vertex of the second ring lies inside the first.
-pub fn all_inside<'a>(ps: &'a [f64], n: usize, qs: &'a [f64], m: usize) -> bool
+pub(crate) fn all_inside<'a>(ps: &'a [f64], n: usize, qs: &'a [f64], m: usize) -> bool
     ensures { λ r. ⌜ r ≡ Clear.every-vertex (Checks.inside-of (now (ps .entry)) n) (now (qs .entry)) m ⌝ }
 {
     let mut k = 0;
@@ -36,7 +36,7 @@ pub fn all_inside<'a>(ps: &'a [f64], n: usize, qs: &'a [f64], m: usize) -> bool
 }
 
 // Question 11 of one hole: every vertex inside the outer ring, and no edge that meets it.
-pub fn hole_free<'a>(ps: &'a [f64], n: usize, qs: &'a [f64], m: usize) -> bool
+pub(crate) fn hole_free<'a>(ps: &'a [f64], n: usize, qs: &'a [f64], m: usize) -> bool
     ensures { λ r. ⌜ r ≡ Checks.hole-free (now (ps .entry)) n (now (qs .entry)) m ⌝ }
 {
     if all_inside(ps, n, qs, m) {
@@ -46,7 +46,13 @@ pub fn hole_free<'a>(ps: &'a [f64], n: usize, qs: &'a [f64], m: usize) -> bool
 }
 
 // Question 11 of hole k.
-pub fn hole_fits<'a>(ps: &'a [f64], n: usize, qs: &'a [f64], cs: &'a [usize], k: usize) -> bool
+pub(crate) fn hole_fits<'a>(
+    ps: &'a [f64],
+    n: usize,
+    qs: &'a [f64],
+    cs: &'a [usize],
+    k: usize,
+) -> bool
     ensures { λ r. ⌜ r ≡ Apart.hole-fits (now (ps .entry)) n (now (qs .entry)) (now (cs .entry)) k ⌝ }
 {
     let m = holes::count_at(cs, k);
@@ -77,7 +83,7 @@ pub(crate) fn check_holes<'a>(
 }
 
 // Question 12 of two holes: an edge of one meets an edge of the other, or one holds the other's first vertex.
-pub fn holes_touch<'a>(ps: &'a [f64], n: usize, qs: &'a [f64], m: usize) -> bool
+pub(crate) fn holes_touch<'a>(ps: &'a [f64], n: usize, qs: &'a [f64], m: usize) -> bool
     ensures { λ r. ⌜ r ≡ Checks.holes-touch (now (ps .entry)) n (now (qs .entry)) m ⌝ }
 {
     if meet::rings_meet(ps, n, qs, m) {
@@ -89,7 +95,7 @@ pub fn holes_touch<'a>(ps: &'a [f64], n: usize, qs: &'a [f64], m: usize) -> bool
 }
 
 // Question 12 of the holes i and j.
-pub fn pair_touches<'a>(qs: &'a [f64], cs: &'a [usize], i: usize, j: usize) -> bool
+pub(crate) fn pair_touches<'a>(qs: &'a [f64], cs: &'a [usize], i: usize, j: usize) -> bool
     ensures { λ r. ⌜ r ≡ Apart.pair-touches (now (qs .entry)) (now (cs .entry)) i j ⌝ }
 {
     let n = holes::count_at(cs, i);

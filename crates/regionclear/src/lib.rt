@@ -6,7 +6,7 @@ ghost use Rattle.region.specs.Insets;
 ghost use Rattle.regionclear.specs.Apart;
 
 // Whether the ring qs stays clear of each ring of a region: inside the outer one, and outside the holes.
-pub fn ring_apart<'a>(
+pub(crate) fn ring_apart<'a>(
     least: f64,
     ps: &'a [f64],
     n: usize,

@@ -7,7 +7,7 @@ use front::Sweep;
 use plane::PlanarPoint;
 
 // The outer ring, then hole after hole.
-pub fn load_rings<'a>(
+pub(crate) fn load_rings<'a>(
     ps: &'a [f64],
     n: usize,
     hs: &'a [f64],

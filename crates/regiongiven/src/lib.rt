@@ -10,7 +10,7 @@ use region::NewRegion;
 use region::Region;
 
 // The rings as they are handed in. A hole past the eighth is counted and not stored.
-pub fn given_rings<'a>(outer: Outline, qs: &'a [f64], cs: &'a [usize]) -> Region
+pub(crate) fn given_rings<'a>(outer: Outline, qs: &'a [f64], cs: &'a [usize]) -> Region
     ensures { λ r. ⌜ r ≡ Checks.given-rings outer (Holes.outlines (now (qs .entry)) (now (cs .entry))) ⌝ }
 {
     let mut points = [0.0; 512];

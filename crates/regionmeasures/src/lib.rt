@@ -8,7 +8,7 @@ ghost use Rattle.region.specs.Regions;
 ghost use Rattle.holes.specs.Given;
 
 // The larger of s and the extent of hole k.
-pub fn extent_step<'a>(qs: &'a [f64], cs: &'a [usize], k: usize, s: f64) -> f64
+pub(crate) fn extent_step<'a>(qs: &'a [f64], cs: &'a [usize], k: usize, s: f64) -> f64
     ensures { λ r. ⌜ r ≡ fmax s (Measures.extent (drop (64 * k) (now (qs .entry))) (getD (now (cs .entry)) k 0)) ⌝ }
 {
     let n = holes::count_at(cs, k);
@@ -30,7 +30,7 @@ pub fn region_extent<'a>(ps: &'a [f64], n: usize, qs: &'a [f64], cs: &'a [usize]
 }
 
 // s and the area of hole k.
-pub fn area_step<'a>(qs: &'a [f64], cs: &'a [usize], k: usize, s: f64) -> f64
+pub(crate) fn area_step<'a>(qs: &'a [f64], cs: &'a [usize], k: usize, s: f64) -> f64
     ensures { λ r. ⌜ r ≡ add s (Measures.area (drop (64 * k) (now (qs .entry))) (getD (now (cs .entry)) k 0)) ⌝ }
 {
     let n = holes::count_at(cs, k);
@@ -52,7 +52,7 @@ pub fn area<'a>(ps: &'a [f64], n: usize, qs: &'a [f64], cs: &'a [usize], h: usiz
 }
 
 // s and the perimeter of hole k.
-pub fn perimeter_step<'a>(qs: &'a [f64], cs: &'a [usize], k: usize, s: f64) -> f64
+pub(crate) fn perimeter_step<'a>(qs: &'a [f64], cs: &'a [usize], k: usize, s: f64) -> f64
     ensures { λ r. ⌜ r ≡ add s (Measures.perimeter (drop (64 * k) (now (qs .entry))) (getD (now (cs .entry)) k 0)) ⌝ }
 {
     let n = holes::count_at(cs, k);

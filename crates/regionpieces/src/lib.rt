@@ -9,7 +9,7 @@ use plane::PlanarPoint;
 use region::Region;
 use region::RegionPieces;
 
-pub fn region_pieces_refused(r: Refusal) -> RegionPieces
+pub(crate) fn region_pieces_refused(r: Refusal) -> RegionPieces
     ensures { λ x. ⌜ x ≡ Insets.region-pieces-refused r ⌝ }
 {
     RegionPieces {
@@ -20,7 +20,7 @@ pub fn region_pieces_refused(r: Refusal) -> RegionPieces
 }
 
 // Whether there is a place for a whole piece: one outer ring, and eight holes.
-pub fn place_refusal(d: f64, outer: bool, found: bool, held: usize) -> Refusal
+pub(crate) fn place_refusal(d: f64, outer: bool, found: bool, held: usize) -> Refusal
     ensures { λ r. ⌜ r ≡ Rooms.place-refusal d outer found held ⌝ }
 {
     let split = error::choose(found, Refusal::Splits(d), Refusal::Granted);

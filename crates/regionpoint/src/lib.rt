@@ -12,7 +12,7 @@ use plane::Containment;
 use plane::PlanarPoint;
 
 // What a place in a hole is to the region.
-pub fn in_hole(c: Containment) -> Containment
+pub(crate) fn in_hole(c: Containment) -> Containment
     ensures { λ r. ⌜ r ≡ Regions.in-hole c ⌝ }
 {
     match c {
@@ -23,7 +23,7 @@ pub fn in_hole(c: Containment) -> Containment
 }
 
 // Hole k is asked only of a point that is inside so far. A point in a hole is outside the region.
-pub fn contains_step<'a>(
+pub(crate) fn contains_step<'a>(
     qs: &'a [f64],
     cs: &'a [usize],
     p: PlanarPoint,
@@ -66,7 +66,7 @@ pub fn region_contains<'a>(
 }
 
 // The nearest point of one ring, with its distance.
-pub fn ring_gap(ps: &[f64], n: usize, p: PlanarPoint) -> Nearest
+pub(crate) fn ring_gap(ps: &[f64], n: usize, p: PlanarPoint) -> Nearest
     ensures { λ r. ⌜ r ≡ Gaps.gap-from p ((Near.nearest (now (ps .entry)) n p) .foot) ⌝ }
 {
     let near = near::nearest_to(ps, n, p);
@@ -78,7 +78,7 @@ pub fn ring_gap(ps: &[f64], n: usize, p: PlanarPoint) -> Nearest
 }
 
 // The candidate where its gap is the smaller.
-pub fn nearer(candidate: Nearest, best: Nearest) -> Nearest
+pub(crate) fn nearer(candidate: Nearest, best: Nearest) -> Nearest
     ensures { λ r. ⌜ r ≡ Near.nearer candidate best ⌝ }
 {
     if candidate.gap < best.gap {
@@ -89,7 +89,7 @@ pub fn nearer(candidate: Nearest, best: Nearest) -> Nearest
 }
 
 // The nearer of hole k and the best before it.
-pub fn closest_step<'a>(
+pub(crate) fn closest_step<'a>(
     qs: &'a [f64],
     cs: &'a [usize],
     p: PlanarPoint,
@@ -106,7 +106,7 @@ pub fn closest_step<'a>(
 }
 
 // The nearest point of the boundary or of a hole, with its distance. Each ring's distance is measured once.
-pub fn region_nearest<'a>(
+pub(crate) fn region_nearest<'a>(
     ps: &'a [f64],
     n: usize,
     qs: &'a [f64],

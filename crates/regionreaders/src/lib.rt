@@ -14,7 +14,7 @@ use polygon::Outline;
 use polygon::store;
 
 // The numbers as an outline's 256: 0 past their end, and what is past the room left out.
-pub fn outline_as(ps: &[f64], n: usize) -> Outline
+pub(crate) fn outline_as(ps: &[f64], n: usize) -> Outline
     ensures { λ r. ⌜ r ≡ Reads.outline-as (now (ps .entry)) n ⌝ }
 {
     let mut points = [0.0; 256];
@@ -43,7 +43,7 @@ pub fn outer<'a>(ps: &'a [f64], n: usize, qs: &'a [f64], cs: &'a [usize], h: usi
 }
 
 // Hole k as an outline; from h on the empty one.
-pub fn hole_outline<'a>(qs: &'a [f64], cs: &'a [usize], h: usize, k: usize) -> Outline
+pub(crate) fn hole_outline<'a>(qs: &'a [f64], cs: &'a [usize], h: usize, k: usize) -> Outline
     ensures { λ r. ⌜
         r ≡ cond (ltb k h) (Outlines.stored-outline (drop (64 * k) (now (qs .entry))) (getD (now (cs .entry)) k 0) false) Outlines.no-outline
         ⌝ }

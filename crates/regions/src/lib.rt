@@ -19,7 +19,7 @@ pub fn region_refused(r: Refusal) -> NewRegion
 }
 
 // The region, unless it is refused.
-pub fn region_if(r: Region, s: Refusal) -> NewRegion
+pub(crate) fn region_if(r: Region, s: Refusal) -> NewRegion
     ensures { λ x. ⌜ x ≡ Checks.region-if r s ⌝ }
 {
     if s.granted() {
@@ -54,7 +54,7 @@ pub fn region_loaded(s: RegionLoad) -> NewRegion
     }
 }
 
-pub fn region_finite<'a>(lengths: &'a [usize], ps: &'a [f64], r: Refusal) -> NewRegion
+pub(crate) fn region_finite<'a>(lengths: &'a [usize], ps: &'a [f64], r: Refusal) -> NewRegion
     ensures { λ x. ⌜ x ≡ Checks.region-finite (now (lengths .entry)) (now (ps .entry)) r ⌝ }
 {
     if r.granted() {

@@ -64,7 +64,7 @@ pub fn edge_end(ps: &[f64], n: usize, k: usize) -> PlanarPoint
 }
 
 // Vertex k of the stored ring is this vertex of the given one.
-pub fn source(n: usize, back: bool, k: usize) -> usize
+pub(crate) fn source(n: usize, back: bool, k: usize) -> usize
     ensures { λ r. ⌜ r ≡ Ring.source n back k ⌝ }
 {
     choose(back & (0 < k), less(n, k), k)

@@ -19,14 +19,14 @@ pub const MAX_COORDINATE: f64 = 1e9;
 const MIN_RELATIVE_AREA: f64 = 1e-12;
 
 // a where the test holds, else b.
-pub fn choose(test: bool, a: Checked, b: Checked) -> Checked
+pub(crate) fn choose(test: bool, a: Checked, b: Checked) -> Checked
     ensures { λ r. ⌜ r ≡ cond test a b ⌝ }
 {
     if test { a } else { b }
 }
 
 // How many vertices are kept: one closing repeat is dropped.
-pub fn kept(ps: &[f64], n: usize) -> usize
+pub(crate) fn kept(ps: &[f64], n: usize) -> usize
     ensures { λ r. ⌜ r ≡ Checks.kept (now (ps .entry)) n ⌝ }
 {
     let last = ring::less(n, 1);
@@ -34,14 +34,20 @@ pub fn kept(ps: &[f64], n: usize) -> usize
     ring::choose((1 < n) & closes, last, n)
 }
 
-pub fn beyond(x: f64) -> bool
+pub(crate) fn beyond(x: f64) -> bool
     ensures { λ r. ⌜ r ≡ Checks.beyond x ⌝ }
 {
     (MAX_COORDINATE < x) | (x < -MAX_COORDINATE)
 }
 
 // Range, east then north, then room.
-pub fn vertex_refusal(room: usize, index: usize, n: usize, k: usize, v: PlanarPoint) -> Refusal
+pub(crate) fn vertex_refusal(
+    room: usize,
+    index: usize,
+    n: usize,
+    k: usize,
+    v: PlanarPoint,
+) -> Refusal
     ensures { λ r. ⌜ r ≡ Checks.vertex-refusal room index n k v ⌝ }
 {
     let fits = error::choose(k < room, Refusal::Granted, Refusal::Room(index, n, room));
@@ -50,14 +56,14 @@ pub fn vertex_refusal(room: usize, index: usize, n: usize, k: usize, v: PlanarPo
 }
 
 // Whether nothing is refused of vertex k.
-pub fn passes(room: usize, k: usize, v: PlanarPoint) -> bool
+pub(crate) fn passes(room: usize, k: usize, v: PlanarPoint) -> bool
     ensures { λ r. ⌜ r ≡ Walks.passes room k v ⌝ }
 {
     (k < room) & !(beyond(v.east) | beyond(v.north))
 }
 
 // The first vertex that does not pass is refused.
-pub fn check_range(room: usize, index: usize, ps: &[f64], n: usize) -> Refusal
+pub(crate) fn check_range(room: usize, index: usize, ps: &[f64], n: usize) -> Refusal
     ensures { λ r. ⌜ r ≡ Checks.check-range room index (now (ps .entry)) n ⌝ }
 {
     let mut k = 0;
@@ -72,7 +78,7 @@ pub fn check_range(room: usize, index: usize, ps: &[f64], n: usize) -> Refusal
 }
 
 // Whether two neighbours are equal.
-pub fn repeats(ps: &[f64], n: usize) -> bool
+pub(crate) fn repeats(ps: &[f64], n: usize) -> bool
     ensures { λ r. ⌜ r ≡ Checks.repeats (now (ps .entry)) n ⌝ }
 {
     let mut a = ring::vertex_at(ps, 0);
@@ -89,14 +95,14 @@ pub fn repeats(ps: &[f64], n: usize) -> bool
 }
 
 // Whether the area is nothing beside the square of the span s.
-pub fn flat(signed: f64, s: f64) -> bool
+pub(crate) fn flat(signed: f64, s: f64) -> bool
     ensures { λ r. ⌜ r ≡ Checks.flat signed s ⌝ }
 {
     math::abs(signed) <= MIN_RELATIVE_AREA * s * s
 }
 
 // Edge k of the reversed ring is edge n - 1 - k of the input.
-pub fn crossed(index: usize, n: usize, back: bool, c: Crossing) -> Refusal
+pub(crate) fn crossed(index: usize, n: usize, back: bool, c: Crossing) -> Refusal
     ensures { λ r. ⌜ r ≡ Checks.crossed index n back c ⌝ }
 {
     match c {
@@ -124,7 +130,7 @@ pub fn refused(r: Refusal) -> Checked
     }
 }
 
-pub fn passed(r: Refusal, n: usize, back: bool) -> Checked
+pub(crate) fn passed(r: Refusal, n: usize, back: bool) -> Checked
     ensures { λ x. ⌜ x ≡ Checks.passed r n back ⌝ }
 {
     let all = Checked {
@@ -135,7 +141,7 @@ pub fn passed(r: Refusal, n: usize, back: bool) -> Checked
     choose(r.granted(), all, refused(r))
 }
 
-pub fn check_turned(index: usize, ps: &[f64], n: usize, back: bool) -> Checked
+pub(crate) fn check_turned(index: usize, ps: &[f64], n: usize, back: bool) -> Checked
     ensures { λ r. ⌜ r ≡ Checks.check-turned index (now (ps .entry)) n back ⌝ }
 {
     passed(
@@ -145,7 +151,7 @@ pub fn check_turned(index: usize, ps: &[f64], n: usize, back: bool) -> Checked
     )
 }
 
-pub fn check_area(index: usize, ps: &[f64], n: usize, signed: f64) -> Checked
+pub(crate) fn check_area(index: usize, ps: &[f64], n: usize, signed: f64) -> Checked
     ensures { λ r. ⌜ r ≡ Checks.check-area index (now (ps .entry)) n signed ⌝ }
 {
     if flat(signed, measures::span(ps, n)) {
@@ -155,7 +161,7 @@ pub fn check_area(index: usize, ps: &[f64], n: usize, signed: f64) -> Checked
     }
 }
 
-pub fn check_shape(index: usize, ps: &[f64], n: usize) -> Checked
+pub(crate) fn check_shape(index: usize, ps: &[f64], n: usize) -> Checked
     ensures { λ r. ⌜ r ≡ Checks.check-shape index (now (ps .entry)) n ⌝ }
 {
     if repeats(ps, n) {
@@ -165,7 +171,7 @@ pub fn check_shape(index: usize, ps: &[f64], n: usize) -> Checked
     }
 }
 
-pub fn check_in_range(index: usize, ps: &[f64], n: usize, r: Refusal) -> Checked
+pub(crate) fn check_in_range(index: usize, ps: &[f64], n: usize, r: Refusal) -> Checked
     ensures { λ x. ⌜ x ≡ Checks.check-in-range index (now (ps .entry)) n r ⌝ }
 {
     if r.granted() {
@@ -175,7 +181,7 @@ pub fn check_in_range(index: usize, ps: &[f64], n: usize, r: Refusal) -> Checked
     }
 }
 
-pub fn check_kept(room: usize, index: usize, ps: &[f64], n: usize) -> Checked
+pub(crate) fn check_kept(room: usize, index: usize, ps: &[f64], n: usize) -> Checked
     ensures { λ r. ⌜ r ≡ Checks.check-kept room index (now (ps .entry)) n ⌝ }
 {
     if n < 3 {

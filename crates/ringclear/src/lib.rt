@@ -7,7 +7,7 @@ ghost use Rattle.ringclear.specs.Rings;
 use plane::PlanarPoint;
 
 // Whether the gap between p and the edge ab is surely below infinity, by its square as computed.
-pub fn surely(p: PlanarPoint, a: PlanarPoint, b: PlanarPoint) -> bool
+pub(crate) fn surely(p: PlanarPoint, a: PlanarPoint, b: PlanarPoint) -> bool
     ensures { λ r. ⌜ r ≡ Rings.surely p a b ⌝ }
 {
     let v = plane::sub(segment::closest_on_segment(p, a, b), p);
@@ -15,7 +15,7 @@ pub fn surely(p: PlanarPoint, a: PlanarPoint, b: PlanarPoint) -> bool
 }
 
 // Whether the ring's nearest point is at least `least` from p. Where the first edge's gap is below infinity, that is the least gap, and no edge may fall short.
-pub fn ring_reaches(ps: &[f64], n: usize, p: PlanarPoint, least: f64) -> bool
+pub(crate) fn ring_reaches(ps: &[f64], n: usize, p: PlanarPoint, least: f64) -> bool
     ensures { λ r. ⌜
         r ≡ le least (Points.distance-to p ((Near.nearest (now (ps .entry)) n p) .foot))
         ⌝ }
@@ -30,7 +30,7 @@ pub fn ring_reaches(ps: &[f64], n: usize, p: PlanarPoint, least: f64) -> bool
 }
 
 // Whether p is on the right side of the ring and at least `least` from it. The side is the cheaper question.
-pub fn ring_clear_of(outward: bool, least: f64, ps: &[f64], n: usize, p: PlanarPoint) -> bool
+pub(crate) fn ring_clear_of(outward: bool, least: f64, ps: &[f64], n: usize, p: PlanarPoint) -> bool
     ensures { λ r. ⌜ r ≡ Rings.ring-clear-of outward least (now (ps .entry)) n p ⌝ }
 {
     if clear::right_side(outward, contain::ring_contains(ps, n, p)) {
@@ -40,7 +40,7 @@ pub fn ring_clear_of(outward: bool, least: f64, ps: &[f64], n: usize, p: PlanarP
 }
 
 // Whether every vertex of the second ring is clear of the first.
-pub fn ring_keeps_clear<'a>(
+pub(crate) fn ring_keeps_clear<'a>(
     outward: bool,
     least: f64,
     ps: &'a [f64],

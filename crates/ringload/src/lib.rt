@@ -66,7 +66,7 @@ pub fn store_count(cs: [usize; 8], k: usize, n: usize) -> [usize; 8]
 }
 
 // The rings loaded so far: the outer one and k holes. The next ring starts at vertex `start`.
-pub fn loaded(
+pub(crate) fn loaded(
     refusal: Refusal,
     outer: Outline,
     points: [f64; 512],
@@ -119,7 +119,7 @@ pub(crate) fn load_holes<'a>(lengths: &'a [usize], ps: &'a [f64], outer: Outline
 }
 
 // No rings.
-pub fn no_load(r: Refusal, start: usize) -> RegionLoad
+pub(crate) fn no_load(r: Refusal, start: usize) -> RegionLoad
     ensures { λ x. ⌜ x ≡ Loads.no-load r start ⌝ }
 {
     RegionLoad {

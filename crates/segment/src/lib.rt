@@ -11,7 +11,7 @@ pub fn orient(a: PlanarPoint, b: PlanarPoint, c: PlanarPoint) -> f64
 }
 
 // Whether p, on the segment's line, lies within its bounding box.
-pub fn within_box(a: PlanarPoint, b: PlanarPoint, p: PlanarPoint) -> bool
+pub(crate) fn within_box(a: PlanarPoint, b: PlanarPoint, p: PlanarPoint) -> bool
     ensures { λ r. ⌜ r ≡ Segments.within-box a b p ⌝ }
 {
     let west = math::min(a.east, b.east);
@@ -63,7 +63,7 @@ pub fn folds_back(shared: PlanarPoint, a: PlanarPoint, b: PlanarPoint) -> bool
 }
 
 // The point from a, along ab, at the fraction t.
-pub fn along(a: PlanarPoint, ab: PlanarPoint, t: f64) -> PlanarPoint
+pub(crate) fn along(a: PlanarPoint, ab: PlanarPoint, t: f64) -> PlanarPoint
     ensures { λ r. ⌜ r ≡ Segments.along a ab t ⌝ }
 {
     PlanarPoint {

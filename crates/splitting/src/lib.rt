@@ -11,7 +11,7 @@ use front::Vertex;
 use plane::PlanarPoint;
 
 // The first slot that is not alive, and 128 where there is none.
-pub fn free(edges: [Edge; 128]) -> usize
+pub(crate) fn free(edges: [Edge; 128]) -> usize
     ensures { λ r. ⌜ r ≡ Splitting.free edges ⌝ }
 {
     let mut k = 0;
@@ -26,7 +26,7 @@ pub fn free(edges: [Edge; 128]) -> usize
 }
 
 // Whether two edges are in one ring: a walk from the first passes the second before it comes round.
-pub fn one_ring(edges: [Edge; 128], a: usize, b: usize) -> bool
+pub(crate) fn one_ring(edges: [Edge; 128], a: usize, b: usize) -> bool
     ensures { λ r. ⌜ r ≡ Splitting.one-ring edges a b ⌝ }
 {
     let mut at = a;
@@ -43,7 +43,7 @@ pub fn one_ring(edges: [Edge; 128], a: usize, b: usize) -> bool
 }
 
 // The copy of the edge that is hit starts at the vertex, after the edge before it.
-pub fn copy_of(hit: Edge, before: usize, p: PlanarPoint, t: f64) -> Edge
+pub(crate) fn copy_of(hit: Edge, before: usize, p: PlanarPoint, t: f64) -> Edge
     ensures { λ r. ⌜ r ≡ Splitting.copy-of hit before p t ⌝ }
 {
     let line = hit.line;
@@ -58,7 +58,7 @@ pub fn copy_of(hit: Edge, before: usize, p: PlanarPoint, t: f64) -> Edge
 }
 
 // The front with an edge in a slot; a store out of it is left out.
-pub fn set_edge(edges: [Edge; 128], k: usize, e: Edge) -> [Edge; 128]
+pub(crate) fn set_edge(edges: [Edge; 128], k: usize, e: Edge) -> [Edge; 128]
     ensures { λ r. ⌜ r ≡ set edges k e ⌝ }
 {
     let mut f = edges;
@@ -69,7 +69,7 @@ pub fn set_edge(edges: [Edge; 128], k: usize, e: Edge) -> [Edge; 128]
 }
 
 // The vertex follows the edge that it hits.
-pub fn cut(edges: [Edge; 128], v: usize, e: usize, p: PlanarPoint, t: f64) -> [Edge; 128]
+pub(crate) fn cut(edges: [Edge; 128], v: usize, e: usize, p: PlanarPoint, t: f64) -> [Edge; 128]
     ensures { λ r. ⌜ r ≡ Splitting.cut edges v e p t ⌝ }
 {
     let linked = edges::set_previous(edges, v, e);
@@ -77,7 +77,7 @@ pub fn cut(edges: [Edge; 128], v: usize, e: usize, p: PlanarPoint, t: f64) -> [E
 }
 
 // One ring keeps the edge `hit`, at e, and runs on to the vertex; the other takes the copy after `before`, the edge before the vertex.
-pub fn split_linked(
+pub(crate) fn split_linked(
     edges: [Edge; 128],
     v: usize,
     e: usize,
@@ -98,7 +98,7 @@ pub fn split_linked(
 }
 
 // A front with nothing counted yet that a refusal ends.
-pub fn refused(edges: [Edge; 128], travelled: f64, r: Refusal) -> Sweep
+pub(crate) fn refused(edges: [Edge; 128], travelled: f64, r: Refusal) -> Sweep
     ensures { λ s. ⌜ s ≡ Sweeps.sweep-refused (Begun.begun edges travelled) r ⌝ }
 {
     Sweep {
@@ -113,7 +113,7 @@ pub fn refused(edges: [Edge; 128], travelled: f64, r: Refusal) -> Sweep
 }
 
 // A split front, and whether the split divided a ring or joined two.
-pub fn parted(edges: [Edge; 128], t: f64, together: bool) -> Sweep
+pub(crate) fn parted(edges: [Edge; 128], t: f64, together: bool) -> Sweep
     ensures { λ s. ⌜ s ≡ Sweeps.swept-split (Begun.begun edges t) t together edges ⌝ }
 {
     Sweep {
@@ -128,7 +128,7 @@ pub fn parted(edges: [Edge; 128], t: f64, together: bool) -> Sweep
 }
 
 // A full front of 128 slots cannot split.
-pub fn split_into(
+pub(crate) fn split_into(
     edges: [Edge; 128],
     travelled: f64,
     v: usize,

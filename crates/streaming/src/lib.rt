@@ -11,7 +11,7 @@ pub struct Next {
 }
 
 // The place of the first LF from `at` on, or the end of the block.
-pub fn line_end(block: &[u8], at: usize) -> usize
+pub(crate) fn line_end(block: &[u8], at: usize) -> usize
     ensures { λ r. ⌜ r ≡ Feeding.line-end (now (block .entry)) at ⌝ }
 {
     let mut k = at;
@@ -25,7 +25,7 @@ pub fn line_end(block: &[u8], at: usize) -> usize
 }
 
 // More bytes of a line after those that are held, up to 16,385 in all. Answers how many are held then.
-pub fn hold<'a>(part: &'a [u8], held: &'a mut [u8], count: usize) -> usize
+pub(crate) fn hold<'a>(part: &'a [u8], held: &'a mut [u8], count: usize) -> usize
     ensures counted { λ r. ⌜ r ≡ Feeding.count-with count (now (part .entry)) ⌝ }
     ensures held { λ _. ⌜ now (held .exit) ≡ Feeding.held-with (now (held .entry)) count (now (part .entry)) ⌝ }
 {

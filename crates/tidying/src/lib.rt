@@ -11,33 +11,33 @@ use front::Vertex;
 use plane::PlanarPoint;
 
 // An edge of no length that does not grow.
-pub fn empty(t: f64, l: f64, rate: f64) -> bool
+pub(crate) fn empty(t: f64, l: f64, rate: f64) -> bool
     ensures { λ r. ⌜ r ≡ Tidying.empty t l rate ⌝ }
 {
     (l <= Edge::ON_EDGE * (1.0 + t)) & (rate <= Edge::TIE)
 }
 
 // Two directions that face opposite ways, and two that face the same way.
-pub fn opposed(u: PlanarPoint, w: PlanarPoint) -> bool
+pub(crate) fn opposed(u: PlanarPoint, w: PlanarPoint) -> bool
     ensures { λ r. ⌜ r ≡ Tidying.opposed u w ⌝ }
 {
     1.0 + plane::dot(u, w) < Edge::OPPOSITE
 }
 
-pub fn same_way(u: PlanarPoint, w: PlanarPoint) -> bool
+pub(crate) fn same_way(u: PlanarPoint, w: PlanarPoint) -> bool
     ensures { λ r. ⌜ r ≡ Tidying.same-way u w ⌝ }
 {
     (math::abs(plane::cross(u, w)) < Edge::PARALLEL) & (0.0 < plane::dot(u, w))
 }
 
 // A ring of fewer than three edges, by the edge at a slot and its next.
-pub fn short(slot: usize, e: Edge, after: Edge) -> bool
+pub(crate) fn short(slot: usize, e: Edge, after: Edge) -> bool
     ensures { λ r. ⌜ r ≡ Findings.short slot e after ⌝ }
 {
     (e.next == slot) | (after.next == slot)
 }
 
-pub fn tidy_length(slot: usize, t: f64, length: Length) -> Tidy
+pub(crate) fn tidy_length(slot: usize, t: f64, length: Length) -> Tidy
     ensures { λ r. ⌜ r ≡ Tidying.tidy-length slot t length ⌝ }
 {
     match length {
@@ -53,7 +53,14 @@ pub fn tidy_length(slot: usize, t: f64, length: Length) -> Tidy
 }
 
 // What is to be taken out at a slot in a ring of three edges or more, from its edge and the one before it, and its next and the one before that.
-pub fn turn_between(slot: usize, t: f64, before: Edge, e: Edge, beside: Edge, after: Edge) -> Tidy
+pub(crate) fn turn_between(
+    slot: usize,
+    t: f64,
+    before: Edge,
+    e: Edge,
+    beside: Edge,
+    after: Edge,
+) -> Tidy
     ensures { λ r. ⌜ r ≡ Findings.turn-between slot t before e beside after ⌝ }
 {
     let u = lines::direction(e.line);
@@ -94,7 +101,7 @@ pub fn settled(found: Tidy) -> bool
 }
 
 // A ring too small is dropped whole, from its slot on: the walk ends where it comes round or meets a dead edge.
-pub fn drop_ring(edges: [Edge; 128], slot: usize) -> [Edge; 128]
+pub(crate) fn drop_ring(edges: [Edge; 128], slot: usize) -> [Edge; 128]
     ensures { λ r. ⌜ r ≡ Tidying.drop-ring edges slot ⌝ }
 {
     let mut f = edges;
@@ -117,13 +124,13 @@ pub fn drop_ring(edges: [Edge; 128], slot: usize) -> [Edge; 128]
 }
 
 // A straight vertex: one line, one edge. The edge that ends there stays, its next goes.
-pub fn drop_straight(edges: [Edge; 128], next: usize, t: f64) -> Front
+pub(crate) fn drop_straight(edges: [Edge; 128], next: usize, t: f64) -> Front
     ensures { λ r. ⌜ r ≡ Tidying.drop-straight edges next t ⌝ }
 {
     edges::collapse(edges, next, t)
 }
 
-pub fn midpoint(p: PlanarPoint, q: PlanarPoint) -> PlanarPoint
+pub(crate) fn midpoint(p: PlanarPoint, q: PlanarPoint) -> PlanarPoint
     ensures { λ r. ⌜ r ≡ Tidying.midpoint p q ⌝ }
 {
     PlanarPoint {
@@ -132,7 +139,7 @@ pub fn midpoint(p: PlanarPoint, q: PlanarPoint) -> PlanarPoint
     }
 }
 
-pub fn meeting_or(p: PlanarPoint, q: PlanarPoint, place: Place) -> PlanarPoint
+pub(crate) fn meeting_or(p: PlanarPoint, q: PlanarPoint, place: Place) -> PlanarPoint
     ensures { λ r. ⌜ r ≡ Tidying.meeting-or p q place ⌝ }
 {
     match place {
@@ -142,7 +149,7 @@ pub fn meeting_or(p: PlanarPoint, q: PlanarPoint, place: Place) -> PlanarPoint
 }
 
 // A spike, or an inlet of no width: both edges go, and the edges on either side, `before` and `after`, meet afresh.
-pub fn drop_both(
+pub(crate) fn drop_both(
     edges: [Edge; 128],
     slot: usize,
     next: usize,
@@ -187,7 +194,7 @@ pub fn drop_both(
     }
 }
 
-pub fn spike_to(
+pub(crate) fn spike_to(
     edges: [Edge; 128],
     slot: usize,
     before: usize,
@@ -210,7 +217,7 @@ pub fn spike_to(
     }
 }
 
-pub fn drop_spike(edges: [Edge; 128], slot: usize, next: usize, t: f64) -> Front
+pub(crate) fn drop_spike(edges: [Edge; 128], slot: usize, next: usize, t: f64) -> Front
     ensures { λ r. ⌜ r ≡ Tidying.drop-spike edges slot next t ⌝ }
 {
     let e = lines::edge_or(slot < 128, edges[edges::within(slot)]);
