@@ -13,7 +13,8 @@
  * is not NULL (where the count is 0, any address will do), and what is lent as
  * output is not part of the input.
  *
- * Every function answers in a struct. `refusal` is 0 where the call is granted.
+ * Every function but lw_hypot answers in a struct. `refusal` is 0 where the call is
+ * granted.
  * Otherwise it is the number of the first question that was answered with no,
  * the other fields carry what belongs to it, and the lent output is as it was.
  * A granted call changes only the numbers that it writes.
