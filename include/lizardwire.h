@@ -13,20 +13,19 @@
  * is not NULL (where the count is 0, any address will do), and what is lent as
  * output is not part of the input.
  *
- * Every function but lw_hypot answers in a struct. `refusal` is 0 where the call is
- * granted.
- * Otherwise it is the number of the first question that was answered with no,
- * the other fields carry what belongs to it, and the lent output is as it was.
- * A granted call changes only the numbers that it writes.
+ * Every function but lw_hypot answers in a struct. `refusal` is 0 where the call
+ * is granted. Otherwise it is the number of the first question that was answered
+ * with no, the other fields carry what belongs to it, and the lent output is as
+ * it was. A granted call changes only the numbers that it writes.
  *
  * A ring that an offset gives is simple, on the right side and clear of its
  * source, and keeps the distance at each of its vertices. It need not be all that
  * is left. Where a narrow place closes, the part behind it can be missing:
  * (0,0) (10,0) (6,5) (10,10) (0,10) (4,5) inset by 1.2 gives one of two triangles;
  * (8,6) (2,12) (4,14) (-4,14) (-2,12) (-8,6) inset by 1.5 keeps 0.14 of an area of
- * 19.3. Nor does 16 mean that nothing is: the square of 10 with the hole (1,4)
- * (3,4) (3,6) (1,6) inset by 0.75 is refused so, with 61.75 left. README.md says
- * more under "What is not covered".
+ * 19.3. Nor does 16 always mean that nothing is left: the square from (0,0) to
+ * (10,10) with the hole (1,4) (3,4) (3,6) (1,6) inset by 0.75 gets it, and an area
+ * of 61.75 is left. README.md says more under "What is not covered".
  *
  *  refusal                                             fields that carry
  *   1  the count of numbers is odd
@@ -81,7 +80,8 @@ extern "C" {
 #define LW_OUTLINE_NUMBERS 256  /* lw_outline, lw_inset, lw_outset */
 #define LW_REGION_NUMBERS 768   /* lw_region, lw_region_inset */
 /* The longest job line that is read, in bytes, LF not counted. An answer line is
- * shorter: `ok` and a full region are 13,088 bytes. */
+ * shorter (a full region's has 13,088), so lent output of this many bytes is never
+ * too short. */
 #define LW_LINE_BYTES 16384
 
 /* What lw_contains answers in `place`. */
