@@ -3,9 +3,9 @@
  * Link with target/staticlib/liblizardwire_c.a or target/shared/liblizardwire.so
  * (`tools/library` builds both). The library is for x86-64 Linux. It allocates
  * nothing, keeps nothing between calls, calls nothing of yours, and may be
- * called from any number of threads at once. A job line takes 246 KB of stack,
- * a region's inset 216, an outline's offset 182, the check of a region 59, and
- * anything else less than 1 KB.
+ * called from any number of threads at once. A job line takes 235 KB of stack,
+ * a region's inset 205, an outline's offset 165, the check of a region 59, and
+ * anything else less than 1 KB, of 1,000 bytes each.
  *
  * Numbers come as one flat list of doubles, east then north of each vertex.
  * Every bit pattern is allowed in them, NaN too. What a caller owes is what C
@@ -13,38 +13,48 @@
  * is not NULL (where the count is 0, any address will do), and what is lent as
  * output is not part of the input.
  *
- * Every function answers in a struct. `refusal` is 0 where the call is granted.
- * Otherwise it is the number of the first question that was answered with no,
- * the other fields carry what belongs to it, and the lent output is as it was.
- * A granted call changes only the numbers that it writes.
+ * Every function but lw_hypot answers in a struct. `refusal` is 0 where the call
+ * is granted. Otherwise it is the number of the first question that was answered
+ * with no, the other fields carry what belongs to it, and the lent output is as
+ * it was. A granted call changes only the numbers that it writes.
+ *
+ * A ring that an offset gives is simple, on the right side and clear of its
+ * source, and keeps the distance at each of its vertices. It need not be all that
+ * is left. Where a narrow place closes, the part behind it can be missing:
+ * (0,0) (10,0) (6,5) (10,10) (0,10) (4,5) inset by 1.2 gives one of two triangles;
+ * (8,6) (2,12) (4,14) (-4,14) (-2,12) (-8,6) inset by 1.5 keeps 0.14 of an area of
+ * 19.3. Nor does 16 always mean that nothing is left: the square from (0,0) to
+ * (10,10) with the hole (1,4) (3,4) (3,6) (1,6) inset by 0.75 gets it, and an area
+ * of 61.75 is left. README.md says more under "What is not covered".
  *
  *  refusal                                             fields that carry
  *   1  the count of numbers is odd
  *   2  a number is not finite                          first: its index
- *   3  no ring, or lengths that do not add up
+ *   3  no ring, or vertex counts that do not add up
  *      to the points
  *   4  fewer than three vertices                       ring; first: vertices found
  *   5  a coordinate beyond +-1e9                       ring; value: the coordinate
- *   6  more vertices than there is room for            ring; first: needed, second: room
+ *   6  more vertices than there is room for: 128, in
+ *      a hole 32                                       ring; first: needed, second: room
  *   7  a vertex equal to its neighbour                 ring
  *   8  an area of nothing beside the outline's span    ring
- *   9  two edges cross or touch                        ring; first, second: the edges
+ *   9  two edges cross or touch                        ring; first, second: the two edges
  *  10  more than 8 holes                               first: holes given
  *  11  a hole that reaches the outer ring or lies
  *      outside it                                      first: the hole
- *  12  two holes that touch or overlap                 first, second: the holes
+ *  12  two holes that touch or overlap                 first, second: the two holes
  *  13  a distance that is not finite, or above 1e12
  *  14  a distance below 0                              value: the distance
  *  15  a front of more than 128 edges                  first: needed
  *  16  nothing is left at that distance                value: the distance
- *  17  what is left is not one piece, or not clear
- *      of the source                                   value: the distance
+ *  17  what is left is not one piece, or not clear of
+ *      the source                                      value: the distance
  *  18  387 events did not bring the front to the
  *      distance                                        first: 387, value: what remained
  *  19  more than 8 holes are left                      first: 9
  *  20  the lent output is too short                    first: numbers (or bytes) needed
- *  21  a shape handed in is none: 3 to 128 vertices,
- *      every coordinate within +-1e9
+ *  21  a shape handed in is none: counts or
+ *      coordinates out of bounds
  *  22  an ill-formed job line
  *
  * A field that a refusal does not carry reads 0. Rings, edges, vertices, holes
@@ -66,10 +76,12 @@ extern "C" {
 #define LW_VERTICES 128      /* an outline, or the outer ring of a region */
 #define LW_HOLES 8           /* holes of a region */
 #define LW_HOLE_VERTICES 32  /* a hole */
-/* Lent output of this many numbers is never too short. */
+/* Lent output of this many numbers is never too short: so much is in a full shape. */
 #define LW_OUTLINE_NUMBERS 256  /* lw_outline, lw_inset, lw_outset */
 #define LW_REGION_NUMBERS 768   /* lw_region, lw_region_inset */
-/* The longest job line and the longest answer line, in bytes, LF not counted. */
+/* The longest job line that is read, in bytes, LF not counted. An answer line is
+ * shorter (a full region's has 13,088), so lent output of this many bytes is never
+ * too short. */
 #define LW_LINE_BYTES 16384
 
 /* What lw_contains answers in `place`. */
@@ -127,7 +139,8 @@ LwOutline lw_check(const double *numbers, size_t count);
 LwOutline lw_outline(const double *numbers, size_t count, double *out, size_t out_count);
 
 /* The functions below take an outline as lw_outline writes it, and work on
- * what they are given as it is. An odd count is 21. */
+ * what they are given as it is. 21 is an odd count, fewer than 3 or more than
+ * 128 vertices, or a number that is not within +-1e9. */
 
 /* Where does the point lie? Refusals: 21, then 2 of the point (0 east, 1 north). */
 LwPlace lw_contains(const double *outline, size_t count, double east, double north);
@@ -138,12 +151,12 @@ LwNearest lw_nearest(const double *outline, size_t count, double east, double no
 /* The area enclosed. Refusals: 21. */
 LwArea lw_area(const double *outline, size_t count);
 
-/* The ring inside the outline at that distance all the way round, written to
- * `out`. Refusals: 21, 13, 14, then 4, 5, 6 and 15 to 18 as the offset meets
- * them, then 20. At distance 0 it is the outline itself. */
+/* The ring that the edges make once they have moved inward by the distance,
+ * corners mitred, written to `out`. Refusals: 21, 13, 14, then 4, 5, 6 and 15 to
+ * 18 as the offset meets them, then 20. At distance 0 it is the outline itself. */
 LwOffset lw_inset(const double *outline, size_t count, double distance, double *out, size_t out_count);
 
-/* The ring outside it, likewise. */
+/* Outward, likewise. */
 LwOffset lw_outset(const double *outline, size_t count, double distance, double *out, size_t out_count);
 
 /* ---- regions and job lines */

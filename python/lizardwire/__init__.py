@@ -1,9 +1,9 @@
 """Cages of outlines and regions.
 
-You draw the outline of a part and give a distance. You get the ring that runs inside the
-outline at that distance all the way round, corners mitred, or outside it for an outset.
-Holes stay holes. Where there is no such ring, :class:`Refused` says why, in words and by
-number.
+You draw the outline of a part and give a distance. You get the ring that its edges make
+once they have moved inward by that distance, corners mitred, or outward for an outset.
+Holes stay holes. Where no such ring is found, :class:`Refused` says why, in words and by
+number. Where a drawing has a narrow place, a cage can lack the part behind it.
 
     >>> import lizardwire
     >>> square = [(0, 0), (4, 0), (4, 4), (0, 4)]

@@ -13,8 +13,8 @@ from .shapes import inset, outset
 
 MOST = 60
 
-ABOUT = """Cages of outlines: the ring that runs inside a drawing, or outside it, at a
-given distance all the way round; or the reason why there is none."""
+ABOUT = """Cages of outlines: the ring that a drawing's edges make once they have moved inward,
+or outward, by a given distance; or the reason why there is none."""
 
 DRAW = """Draws each outline of a file with its cage, as one SVG picture. The file has job
 lines, or is an SVG drawing: polygon, polyline, rect and straight path elements are

@@ -8,7 +8,7 @@ Value = Union[int, float]
 CARRIES: Dict[int, Tuple[Tuple[str, str], ...]] = {
     2: (("index", "first"),),
     4: (("ring", "ring"), ("found", "first")),
-    5: (("ring", "ring"), ("coordinate", "value")),
+    5: (("ring", "ring"), ("value", "value")),
     6: (("ring", "ring"), ("needed", "first"), ("room", "second")),
     7: (("ring", "ring"),),
     8: (("ring", "ring"),),
@@ -114,7 +114,7 @@ class Refused(ValueError):
         if number == 4:
             return f"{name} has {v['found']} vertices: 3 are needed"
         if number == 5:
-            return f"{name} has the coordinate {short(v['coordinate'])}: 1e9 is the limit"
+            return f"{name} has the coordinate {short(v['value'])}: 1e9 is the limit"
         if number == 6:
             return f"{name} has more than {v['room']} vertices"
         if number == 7:
@@ -140,6 +140,8 @@ class Refused(ValueError):
             return f"at {short(v['distance'])} the cage falls apart or meets the outline"
         if number == 18:
             return f"after {v['events']} events {short(v['residual'])} of the distance is still to go"
+        if number == 19:
+            return f"{v['needed']} holes would be left: 8 is the limit"
         if number == 20:
             return f"the output is too short: {v['needed']} numbers are needed"
         return PLAIN.get(number, "refused")

@@ -66,7 +66,7 @@ class Examples(unittest.TestCase):
     def test_e12_range(self):
         self.assertEqual(len(Outline([(0, 0), (1e9, 0), (0, 1e9)])), 3)
         above = math.nextafter(1e9, math.inf)
-        self.refused(5, {"ring": 0, "coordinate": above}, Outline, [(0, 0), (above, 0), (0, 1e9)])
+        self.refused(5, {"ring": 0, "value": above}, Outline, [(0, 0), (above, 0), (0, 1e9)])
 
     def test_e13_hypot(self):
         self.assertEqual(hypot(3, 4), 5)

@@ -1,7 +1,8 @@
 //! Lizardwire: cages of outlines and regions.
 //!
-//! An outline and a distance go in; the ring that runs inside it (or outside it) at that distance all the way round comes
-//! out, or a [`Refusal`] that says which question was answered with no, and the value that goes with it.
+//! An outline and a distance go in; the ring that its edges make once they have moved inward (or outward) by that distance
+//! comes out, or a [`Refusal`] that says which question was answered with no, and the value that goes with it. Where a
+//! drawing has a narrow place, the ring can lack the part behind it.
 //!
 //! ```
 //! use lizardwire::{Outline, Place, Refusal};
@@ -40,5 +41,5 @@ pub const VERTICES: usize = 128;
 pub const HOLES: usize = 8;
 /// The most vertices of a hole.
 pub const HOLE_VERTICES: usize = 32;
-/// The longest job line and the longest answer line, in bytes, LF not counted.
+/// The longest job line that is read, in bytes, LF not counted; an answer line is shorter.
 pub const LINE_BYTES: usize = 16_384;

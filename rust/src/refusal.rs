@@ -16,7 +16,7 @@ pub enum Refusal {
         /// Its index in the flat list.
         index: usize,
     },
-    /// 3: no ring, or ring lengths that do not add up to the points.
+    /// 3: no ring, or vertex counts that do not add up to the points.
     Lengths,
     /// 4: fewer than three vertices.
     Few {
@@ -32,7 +32,7 @@ pub enum Refusal {
         /// The coordinate.
         value: f64,
     },
-    /// 6: more vertices than there is room for.
+    /// 6: more vertices than there is room for: 128, in a hole 32.
     Room {
         /// The ring.
         ring: usize,

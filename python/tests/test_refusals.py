@@ -1,0 +1,82 @@
+"""tools/refusals tells each place that does not have what docs/REFUSALS.md says."""
+import os
+import shutil
+import subprocess
+import sys
+
+from tests.support import TOP, Folder
+
+PLACES = (
+    "README.md", "crates/error/specs/Refusals.antt", "crates/error/src/lib.rt", "crates/values/src/lib.rt", "docs/ARCHITECTURE.md",
+    "docs/DECISIONS.md", "include/lizardwire.h", "oracle/src/answer.rs", "python/lizardwire/refusals.py", "rust/src/refusal.rs",
+    "tools/places",
+)
+TABLE = "docs/REFUSALS.md"
+
+# A place, what stands there, what an error would put there.
+ERRORS = (
+    ("README.md", "| 16 | nothing is left at that distance | the distance |\n", ""),
+    ("README.md", "| ring, needed, room |", "| ring, room, needed |"),
+    ("crates/error/specs/Refusals.antt", "question = 15;", "question = 19;"),
+    ("crates/error/specs/Refusals.antt", "needed ∷ room ∷ []", "room ∷ needed ∷ []"),
+    ("crates/error/src/lib.rt", "Refusal::Slots(_) => 15", "Refusal::Slots(_) => 19"),
+    ("crates/error/src/lib.rt", "Negative(f64)", "Negative(usize)"),
+    ("crates/values/src/lib.rt", "told(9, ring, first, second, 0.0)", "told(9, ring, second, first, 0.0)"),
+    ("docs/ARCHITECTURE.md", "`Refusal::Far` |", "`Refusal::Negative` |"),
+    ("docs/DECISIONS.md", "Numbers 1 to 22", "Numbers 1 to 21"),
+    ("include/lizardwire.h", "a coordinate beyond +-1e9 ", "a coordinate beyond +-1e8 "),
+    ("include/lizardwire.h", "first: 387, value: what remained", "first: 387"),
+    ("oracle/src/answer.rs", "&[iterations as usize], &[residual]", "&[iterations as usize], &[]"),
+    ("oracle/src/answer.rs", "{ distance } => Refusal::of(16,", "{ distance } => Refusal::of(17,"),
+    ("oracle/src/answer.rs", "Err(Refusal::of(13, &[], &[]))", "Err(Refusal::of(22, &[], &[]))"),
+    ("python/lizardwire/refusals.py", '12: (("first", "first"), ("second", "second"))', '12: (("first", "second"), ("second", "first"))'),
+    ("python/lizardwire/refusals.py", 'this is not a job line"', 'this is no job"'),
+    ("python/lizardwire/refusals.py", "if number == 17:", "if number == 170:"),
+    ("rust/src/refusal.rs", "/// 8: an area of nothing beside the outline's span.", "/// 8: no area."),
+    ("rust/src/refusal.rs", "10 => Self::ManyHoles { holes: first }", "10 => Self::ManyHoles { holes: second }"),
+    ("rust/src/refusal.rs", "Self::Shape => 21", "Self::Shape => 20"),
+    ("rust/src/refusal.rs", "        residual: f64,\n", ""),
+    ("tools/places", "question 1 to 22", "question 1 to 21"),
+)
+
+
+class Held(Folder):
+    def setUp(self):
+        super().setUp()
+        for path in PLACES + (TABLE,):
+            os.makedirs(os.path.dirname(os.path.join(self.folder, path)), exist_ok=True)
+            shutil.copy(os.path.join(TOP, path), os.path.join(self.folder, path))
+        for name in os.listdir(os.path.join(TOP, "oracle", "src")):
+            if name.endswith(".rs"):
+                shutil.copy(os.path.join(TOP, "oracle", "src", name), os.path.join(self.folder, "oracle", "src", name))
+
+    def told(self, *words):
+        """The places that have a fault, and what is said."""
+        tool = [sys.executable, os.path.join(TOP, "tools", "refusals"), *words, self.folder]
+        done = subprocess.run(tool, capture_output=True, text=True)
+        self.assertEqual(done.stderr, "")
+        self.assertEqual(done.returncode, int("in every place" not in done.stdout), done.stdout)
+        return {line.split(": ")[1] for line in done.stdout.splitlines()} if done.returncode else set(), done.stdout
+
+    def test_all_agree(self):
+        self.assertEqual(self.told()[0], set())
+
+    def test_one_place_is_wrong(self):
+        for path, old, new in ERRORS:
+            text = self.get(path)
+            self.assertIn(old, text, path)
+            self.put(path, text.replace(old, new, 1))
+            places, said = self.told()
+            self.assertEqual(places, {path}, (old, said))
+            self.put(path, text)
+
+    def test_a_new_refusal(self):
+        """Every place is named that lacks it; README and header can be written."""
+        row = "| 23 | `Columns` | `columns` columns; `wide: f64` how wide | too few columns | too few | first | asked beside it |\n"
+        self.put(TABLE, self.get(TABLE) + row)
+        places, said = self.told()
+        self.assertEqual(places, set(PLACES), said)
+        places, said = self.told("--write")
+        self.assertEqual(places, set(PLACES) - {"README.md", "include/lizardwire.h"}, said)
+        self.assertIn("| 23 | too few columns | columns, how wide |\n", self.get("README.md"))
+        self.assertRegex(self.get("include/lizardwire.h"), r"\n \*  23  too few columns +first: columns, value: how wide\n")
