@@ -2,7 +2,7 @@
 use Prim.Native.Nat.{ℕ, _*_}
 use mathlib.Core.Path.{_≡_, ap}
 use mathlib.Core.Bool.{Bool, true, false, cond}
-use mathlib.Core.List.{List, []}
+use mathlib.Core.List.{List}
 use native.Mathlib.Omega.{arith}
 use lib.Dec.{leb}
 use lib.ListN.{length}
@@ -19,7 +19,7 @@ use Rattle.lent.specs.Writes.{write-refusal}
 use Rattle.front.specs.Demand.{givens, run, events, tally}
 use Rattle.offset.specs.Offsets.{check-distance, outline-load, sweep, offset-counted, offset-plain, offset-from, offset-by, offset}
 use Rattle.offset.specs.Lent.{write-offset, offset-told, offset-write}
-use Rattle.offset.specs.Answers.{AnswerDemand, OffsetCounted, WriteAccounts}
+use Rattle.offset.specs.Answers.{AnswerDemand, NoEvent, OffsetCounted, WriteAccounts}
 use Rattle.offset.proofs.Choices.{both}
 use Rattle.offset.proofs.Other.{Other, granted-other}
 use Rattle.offset.proofs.Demand.{outline-demand}
@@ -36,9 +36,9 @@ module _ (o : Outline) (outward : Bool) (d : Float) (q : proper 128 (o .points) 
   unfolding offset offset-by offset-from offset-counted sweep
   swept-counts g z = rw (q, g, z) (outline-demand o outward d q (distance-finite d g) .counted)
 
-  plain-counts : (u : Refusal) (p : Outline) → a ≡ offset-plain u p → record { c = a .collapses; d = a .divides; j = a .joins } ≡ tally []
-  unfolding offset-plain tally
-  plain-counts u p e = ap (λ (x : Offset). record { c = x .collapses; d = x .divides; j = x .joins }) e
+  plain-counts : (u : Refusal) (p : Outline) → a ≡ offset-plain u p → NoEvent (a .collapses) (a .divides) (a .joins)
+  unfolding offset-plain
+  plain-counts u p e = record { collapses = ap (λ (x : Offset). x .collapses) e; divides = ap (λ (x : Offset). x .divides) e; joins = ap (λ (x : Offset). x .joins) e }
 
 pub offset-counts : OffsetCounted
 offset-counts o outward d q = record {

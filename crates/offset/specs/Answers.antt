@@ -45,14 +45,20 @@ OffsetDemand =
 
 -- ---- the counts handed back are those of the front's whole list of events
 
+-- no front was swept
+pub record NoEvent (c e j : ℕ) : Type 0 where
+  pub collapses : c ≡ 0
+  pub divides : e ≡ 0
+  pub joins : j ≡ 0
+
 -- c collapses, e divisions and j joins, by a distance, of the loaded front l
 pub record Counted (distance : Float) (l : Loaded) (c e j : ℕ) : Type 0 where
   -- past 13 and 14 the front is swept
   pub swept : granted (check-distance distance) ≡ true → eq distance zero-float ≡ false →
       record { c = c; d = e; j = j } ≡ tally (events (run (givens distance l) l))
-  -- refused by 13 or 14, and by 0 or −0, there is no event
-  pub refused : granted (check-distance distance) ≡ false → record { c = c; d = e; j = j } ≡ tally []
-  pub unmoved : eq distance zero-float ≡ true → record { c = c; d = e; j = j } ≡ tally []
+  -- refused by 13 or 14, and by 0 or −0, it is not
+  pub refused : granted (check-distance distance) ≡ false → NoEvent c e j
+  pub unmoved : eq distance zero-float ≡ true → NoEvent c e j
 
 abbrev pub OffsetCounted : Type 0
 OffsetCounted =

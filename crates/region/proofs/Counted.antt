@@ -2,7 +2,6 @@
 use Prim.Native.Nat.{suc}
 use mathlib.Core.Path.{_≡_, refl, sym, ap, subst}
 use mathlib.Core.Bool.{true, false}
-use mathlib.Core.List.{List, []}
 use lib.Ieee.{Float, eq}
 use Rattle.error.specs.declared.Refusal.{Refusal}
 use Rattle.error.specs.declared.Refusal.the-variants.{Granted}
@@ -15,6 +14,7 @@ use Rattle.error.specs.Refusals.{granted}
 use Rattle.error.proofs.Laws.{granted-is}
 use Rattle.front.specs.Demand.{givens, run, events, tally}
 use Rattle.offset.specs.Offsets.{check-distance}
+use Rattle.offset.specs.Answers.{NoEvent}
 use Rattle.offset.proofs.Choices.{either}
 use Rattle.offset.proofs.Answers.{distance-finite, Own}
 use Rattle.offset.proofs.Counted.{write-own, handed-on}
@@ -38,9 +38,10 @@ module _ (r : Region) (d : Float) (q : proper-region r ≡ true) where
   unfolding region-inset inset-by inset-from region-counted region-sweep
   swept-counts g z = rw (q, g, z) (region-demand r d q (distance-finite d g) .counted)
 
-  plain-counts : (u : Refusal) (p : Region) → a ≡ region-plain u p → record { c = a .collapses; d = a .divides; j = a .joins } ≡ tally []
-  unfolding region-plain tally
-  plain-counts u p e = ap (λ (x : RegionOffset). record { c = x .collapses; d = x .divides; j = x .joins }) e
+  plain-counts : (u : Refusal) (p : Region) → a ≡ region-plain u p → NoEvent (a .collapses) (a .divides) (a .joins)
+  unfolding region-plain
+  plain-counts u p e =
+      record { collapses = ap (λ (x : RegionOffset). x .collapses) e; divides = ap (λ (x : RegionOffset). x .divides) e; joins = ap (λ (x : RegionOffset). x .joins) e }
 
 pub inset-counts : InsetCounted
 inset-counts r d q = record {
