@@ -7,7 +7,7 @@ use Prim.Native.Nat.{ℕ, zero, suc, _≤_, _<_}
 use Rattle.front.specs.declared.Edge.{Edge}
 use Rattle.front.specs.Edges.{edge}
 
--- 1 if the slot is live, 0 if not
+-- of each slot its next, its previous, and whether it is live: 1 if it is, 0 if not
 pub record Links : Type 0 where
   pub next : ℕ → ℕ
   pub prev : ℕ → ℕ
@@ -17,6 +17,7 @@ abbrev pub bit : Bool → ℕ
 bit true = 1
 bit false = 0
 
+-- the links of a front
 abbrev pub links : List Edge → Links
 links f = record { next = λ s. (edge f s) .next; prev = λ s. (edge f s) .previous; live = λ s. bit ((edge f s) .alive) }
 

@@ -22,7 +22,7 @@ use Rattle.front.specs.Tidying.{find-tidy}
 use Rattle.front.specs.Loading.{Loads}
 use Rattle.front.specs.Sweeps.{offset-rings}
 use Rattle.front.specs.Links.{links}
-use Rattle.front.specs.Demand.{Looks, Each, tidied, found, run}
+use Rattle.front.specs.Demand.{Givens, givens, Looks, Each, tidied, found, run}
 
 -- ---- two lines
 
@@ -42,19 +42,21 @@ Moves f = (x : ℕ) → links f .live x ≡ 1 → (t : Float) → (p : PlanarPoi
 
 -- ---- the run of an offset
 
-pub record Velocity (d : Float) (l : Loaded) : Type 0 where
+pub record Velocity (given : Givens) (l : Loaded) : Type 0 where
   -- every live edge has a line that `Line::through` made, whether it was loaded or copied
-  pub lines : Each (λ t. (x : ℕ) → links ((tidied t) .edges) .live x ≡ 1 → Turned-left (edge-line (edge ((tidied t) .edges) x))) (run d l)
+  pub lines : Each (λ t. (x : ℕ) → links ((tidied t) .edges) .live x ≡ 1 → Turned-left (edge-line (edge ((tidied t) .edges) x))) (run given l)
   -- `tidy` never runs out of its 129 steps: the last one changed nothing, and nothing is left to take out
-  pub settled : Each (λ t. Looks t → ((tidied t) .changed ≡ false) × (find-tidy ((tidied t) .edges) (t .from .travelled) ≡ Settled)) (run d l)
+  pub settled : Each (λ t. Looks t → ((tidied t) .changed ≡ false) × (find-tidy ((tidied t) .edges) (t .from .travelled) ≡ Settled)) (run given l)
   -- the live vertices of a tidied front all have a velocity
-  pub moves : Each (λ t. Looks t → Moves ((tidied t) .edges)) (run d l)
+  pub moves : Each (λ t. Looks t → Moves ((tidied t) .edges)) (run given l)
   -- at the distance too, where the front has come to it
-  pub ended : (offset-rings d l) .ended ≡ true → Moves ((offset-rings d l) .edges)
+  pub ended : (offset-rings (given .distance) l) .ended ≡ true → Moves ((offset-rings (given .distance) l) .edges)
   -- so the search for the next event meets none without
-  pub seeks : Each (λ t. Looks t → found t ≢ Stalled) (run d l)
+  pub seeks : Each (λ t. Looks t → found t ≢ Stalled) (run given l)
   -- and neither does the event: a turn is refused by 17 only where tidying met a vertex without a velocity
-  pub refused : Each (λ t. number (t .to .refusal) ≡ 17 → (tidied t) .stalled ≡ true) (run d l)
+  pub refused : Each (λ t. number (t .to .refusal) ≡ 17 → (tidied t) .stalled ≡ true) (run given l)
 
 abbrev pub FrontVelocity : Type 0
-FrontVelocity = (d : Float) (origin : PlanarPoint) (n r : ℕ) (l : Loaded) → finite d ≡ true → Loads d origin n r l → Velocity d l
+FrontVelocity =
+    (distance : Float) (origin : PlanarPoint) (n r : ℕ) (l : Loaded) → finite distance ≡ true → Loads distance origin n r l →
+    Velocity (givens distance l) l

@@ -5,6 +5,7 @@ pub mod Written
 pub mod Room
 pub mod Below
 pub mod Refused
+pub mod Counted
 pub mod Stream
 pub mod Answers
 pub mod Table

@@ -32,7 +32,7 @@ use Rattle.meet.specs.Meet.{rings-meet}
 use Rattle.ringcheck.specs.Checks.{check-ring}
 use Rattle.polygon.specs.Outlines.{proper, no-outline, stored-outline, outline-refused, outline-of, outline-if, new-outline, outline, offset-tolerance, check-finite}
 use Rattle.front.specs.Sweeps.{sweep-from, offset-rings}
-use Rattle.front.specs.Demand.{Demand}
+use Rattle.front.specs.Demand.{givens, Demand}
 use Rattle.front.specs.Loading.{outer}
 use Rattle.front.proofs.Demand.Whole.{loads-other}
 use lib.Ieee.Fits.{down-pos}
@@ -157,7 +157,7 @@ module _ (o : Outline) (outward : Bool) (d : Float) (q : proper 128 (o .points) 
   unfolding offset-from offset-counted
   from-told near =
       let s : Sweep = offset-rings d load in
-      let D : Demand (o .count) 1 d load = outline-demand o outward d q near in
+      let D : Demand (o .count) 1 (givens d load) load = outline-demand o outward d q near in
       record {
         told = answer-demand (o .count) 1 (s .refusal) ((offset-swept o outward d s) .refusal) (s .collapses) (s .divides) (s .joins) (D .counts) (D .most) (D .unfinished)
             (sweep-carried d load load-not-18) (swept-own o outward d s .owned);

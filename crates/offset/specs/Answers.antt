@@ -1,5 +1,6 @@
 -- What holds of the answers about an outline, whatever the shape, the side and the distance, finite or not: demand 3 of what is handed back, the empty shape beside a refusal,
--- the counts before loading, what an accepted offset has passed, and lent output. Proved in `proofs/Answers.antt`, `proofs/Accepted.antt` and `proofs/Lent.antt`. Assumes nothing.
+-- the counts before loading, what an accepted offset has passed, and lent output. Proved in `proofs/Answers.antt`, `proofs/Counted.antt`,
+-- `proofs/Accepted.antt` and `proofs/Lent.antt`. Assumes nothing.
 use Prim.Native.Nat.{ℕ, _+_, _*_, _≤_, _<_}
 use mathlib.Core.Path.{_≡_}
 use mathlib.Core.Bool.{Bool, true, false, cond}
@@ -21,6 +22,8 @@ use Rattle.simple.specs.Simple.{check-simple}
 use Rattle.contain.specs.Contains.{ring-contains}
 use Rattle.near.specs.Near.{nearest}
 use Rattle.polygon.specs.Outlines.{outline, proper, no-outline, relative-tolerance}
+use Rattle.front.specs.declared.Loaded.{Loaded}
+use Rattle.front.specs.Demand.{tally, events, givens, run}
 use Rattle.lent.specs.Writes.{outline-write, written-outline}
 use Rattle.offset.specs.Offsets.{offset, offset-plain, check-distance, outline-load}
 use Rattle.offset.specs.Lent.{offset-write, written-offset}
@@ -39,6 +42,42 @@ abbrev pub OffsetDemand : Type 0
 OffsetDemand =
     (o : Outline) (outward : Bool) (d : Float) → proper 128 (o .points) (o .count) ≡ true →
     AnswerDemand (o .count) 1 ((offset o outward d) .refusal) ((offset o outward d) .collapses) ((offset o outward d) .divides) ((offset o outward d) .joins)
+
+-- ---- the counts handed back are those of the front's whole list of events
+
+-- no front was swept
+pub record NoEvent (c e j : ℕ) : Type 0 where
+  pub collapses : c ≡ 0
+  pub divides : e ≡ 0
+  pub joins : j ≡ 0
+
+-- c collapses, e divisions and j joins, by a distance, of the loaded front l
+pub record Counted (distance : Float) (l : Loaded) (c e j : ℕ) : Type 0 where
+  -- past 13 and 14 the front is swept
+  pub swept : granted (check-distance distance) ≡ true → eq distance zero-float ≡ false →
+      record { c = c; d = e; j = j } ≡ tally (events (run (givens distance l) l))
+  -- refused by 13 or 14, and by 0 or −0, it is not
+  pub refused : granted (check-distance distance) ≡ false → NoEvent c e j
+  pub unmoved : eq distance zero-float ≡ true → NoEvent c e j
+
+abbrev pub OffsetCounted : Type 0
+OffsetCounted =
+    (o : Outline) (outward : Bool) (distance : Float) → proper 128 (o .points) (o .count) ≡ true →
+    Counted distance (outline-load o outward distance) ((offset o outward distance) .collapses) ((offset o outward distance) .divides)
+    ((offset o outward distance) .joins)
+
+-- the bounds and the counts, of whatever hands them on
+pub record Accounts (n r : ℕ) (distance : Float) (l : Loaded) (u : Refusal) (c e j : ℕ) : Type 0 where
+  pub bounds : AnswerDemand n r u c e j
+  pub counted : Counted distance l c e j
+
+-- of an offset to lent output, whether or not 20 refuses it
+abbrev pub WriteAccounts : Type 0
+WriteAccounts =
+    (o : Outline) (outward : Bool) (distance : Float) (out : List Float) → proper 128 (o .points) (o .count) ≡ true →
+    Accounts (o .count) 1 distance (outline-load o outward distance) ((offset-write o outward distance out) .refusal)
+    ((offset-write o outward distance out) .collapses) ((offset-write o outward distance out) .divides)
+    ((offset-write o outward distance out) .joins)
 
 -- ---- the shape beside a refusal is empty
 

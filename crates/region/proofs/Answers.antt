@@ -30,7 +30,7 @@ use Rattle.loops.proofs.Laws.{rounds-keep}
 use Rattle.ring.specs.Ring.{vertex-at}
 use Rattle.polygon.specs.Outlines.{proper, offset-tolerance, check-finite}
 use Rattle.front.specs.Sweeps.{sweep-from, offset-rings}
-use Rattle.front.specs.Demand.{Demand}
+use Rattle.front.specs.Demand.{givens, Demand}
 use Rattle.offset.specs.Offsets.{check-distance}
 use Rattle.offset.specs.Rings.{offset-piece}
 use Rattle.offset.specs.Answers.{AnswerDemand}
@@ -158,7 +158,7 @@ module _ (r : Region) (d : Float) (q : proper-region r ≡ true) where
   unfolding inset-from region-counted
   from-told near =
       let s : Sweep = offset-rings d load in
-      let D : Demand n m d load = region-demand r d q near in
+      let D : Demand n m (givens d load) load = region-demand r d q near in
       record {
         told = answer-demand n m (s .refusal) ((inset-swept r d s) .refusal) (s .collapses) (s .divides) (s .joins) (D .counts) (D .most) (D .unfinished)
             (sweep-carried d load (record { no = region-load-other r d q })) (swept-own r d s .owned);

@@ -15,8 +15,8 @@ use Rattle.polygon.specs.Outlines.{proper}
 use Rattle.front.specs.Loading.{load-ring, loaded-nothing, Loads, outer, hole}
 use Rattle.region.specs.Regions.{hole-points, hole-count}
 use Rattle.region.specs.Checks.{proper-step, proper-region}
-use Rattle.region.specs.Insets.{load-hole-step, load-region}
-use Rattle.region.specs.Demand.{edges-of, RegionDemand}
+use Rattle.region.specs.Insets.{load-hole-step, load-region, region-sweep}
+use Rattle.region.specs.Demand.{edges-of, RegionSweep, RegionDemand}
 use Rattle.offset.proofs.Choices.{all-pass}
 use Rattle.front.proofs.Demand.Choice.{and-left, and-right}
 use Rattle.front.proofs.Demand.Whole.{front-demand, loads-enough, loads-other}
@@ -46,16 +46,20 @@ module _ (r : Region) (d : Float) (q : proper-region r ≡ true) where
   holes-load zero h = outer (r .outer .points) (r .outer .count) false outer-proper
   holes-load (suc n) h = hole (hole-points r n) (hole-count r n) (holes-proper n h) (holes-load n (omega arith))
 
-  region-load : Loads d origin (edges-of r (r .holes)) (suc (r .holes)) (load-region r origin d)
+  region-loads : Loads d origin (edges-of r (r .holes)) (suc (r .holes)) (load-region r origin d)
   unfolding load-region
-  region-load = holes-load (r .holes) (omega arith)
+  region-loads = holes-load (r .holes) (omega arith)
 
   pub enough : 2 * suc (r .holes) ≤ edges-of r (r .holes)
-  enough = loads-enough d origin (edges-of r (r .holes)) (suc (r .holes)) (load-region r origin d) region-load
+  enough = loads-enough d origin (edges-of r (r .holes)) (suc (r .holes)) (load-region r origin d) region-loads
 
   pub region-load-other : number ((load-region r origin d) .refusal) ≢ 18
-  region-load-other = loads-other d origin (edges-of r (r .holes)) (suc (r .holes)) (load-region r origin d) region-load
+  region-load-other = loads-other d origin (edges-of r (r .holes)) (suc (r .holes)) (load-region r origin d) region-loads
+
+pub region-sweeps : RegionSweep
+unfolding region-sweep
+region-sweeps r d = refl
 
 pub region-demand : RegionDemand
 region-demand r d q near =
-    front-demand d (origin r d q) (edges-of r (r .holes)) (suc (r .holes)) (load-region r (origin r d q) d) near (region-load r d q)
+    front-demand d (origin r d q) (edges-of r (r .holes)) (suc (r .holes)) (load-region r (origin r d q) d) near (region-loads r d q)

@@ -1,6 +1,6 @@
 -- What holds of the answers about a region, whatever the shape and the distance, finite or not: demand 3 of what is handed back, the empty shape beside a refusal,
 -- the counts before loading, what an accepted inset has passed, what passes 21, and lent output. Proved in `proofs/Answers.antt`, `proofs/Accepted.antt`,
--- `proofs/Loaded.antt` and `proofs/Lent.antt`. Assumes nothing.
+-- `proofs/Loaded.antt`, `proofs/Lent.antt` and `proofs/Counted.antt`. Assumes nothing.
 use Prim.Native.Nat.{ℕ, suc, _+_, _*_, _≤_, _<_}
 use mathlib.Core.Path.{_≡_}
 use mathlib.Core.Bool.{true, false}
@@ -22,12 +22,12 @@ use Rattle.ring.specs.Ring.{vertex-at, edge-end}
 use Rattle.simple.specs.Simple.{check-simple}
 use Rattle.polygon.specs.Outlines.{relative-tolerance}
 use Rattle.offset.specs.Offsets.{check-distance}
-use Rattle.offset.specs.Answers.{AnswerDemand, EmptyOutline}
+use Rattle.offset.specs.Answers.{AnswerDemand, Counted, Accounts, EmptyOutline}
 use Rattle.region.specs.Regions.{no-region, ring-points, ring-count, region-contains, distance-to-boundary, region-extent}
 use Rattle.region.specs.Checks.{check-region, proper-region, region, region-given, without-holes}
 use Rattle.region.specs.Insets.{region-plain, load-region, region-inset}
 use Rattle.region.specs.Queries.{before, needed, region-write, written-region, inset-write, written-inset}
-use Rattle.region.specs.Demand.{edges-of}
+use Rattle.region.specs.Demand.{edges-of, region-load}
 
 -- ---- demand 3 of an inset: of all the edges, in one ring more than there are holes
 
@@ -35,6 +35,20 @@ abbrev pub InsetDemand : Type 0
 InsetDemand =
     (r : Region) (d : Float) → proper-region r ≡ true →
     AnswerDemand (edges-of r (r .holes)) (suc (r .holes)) ((region-inset r d) .refusal) ((region-inset r d) .collapses) ((region-inset r d) .divides) ((region-inset r d) .joins)
+
+-- the counts handed back are those of the front's whole list of events
+abbrev pub InsetCounted : Type 0
+InsetCounted =
+    (r : Region) (distance : Float) → proper-region r ≡ true →
+    Counted distance (region-load r distance) ((region-inset r distance) .collapses) ((region-inset r distance) .divides)
+    ((region-inset r distance) .joins)
+
+-- the bounds and the counts of an inset to lent output, whether or not 20 refuses it
+abbrev pub InsetWriteAccounts : Type 0
+InsetWriteAccounts =
+    (r : Region) (distance : Float) (out : List Float) → proper-region r ≡ true →
+    Accounts (edges-of r (r .holes)) (suc (r .holes)) distance (region-load r distance) ((inset-write r distance out) .refusal)
+    ((inset-write r distance out) .collapses) ((inset-write r distance out) .divides) ((inset-write r distance out) .joins)
 
 -- ---- the shape beside a refusal is empty
 

@@ -3,11 +3,12 @@ use mathlib.Core.Path.{_≡_, refl, sym, ap, _∙_, subst}
 use mathlib.Core.Logic.{_≢_}
 use mathlib.Core.Bool.{Bool, true, false}
 use mathlib.Core.List.{List}
-use Prim.Native.Nat.{ℕ, suc, _+_, _<_}
+use Prim.Native.Nat.{ℕ, suc, _+_, _≤_, _<_}
 use native.Mathlib.Omega.{arith}
 use lib.Dec.{ltb}
 use lib.ListN.{length}
 use lib.Ieee.{Float}
+use borrow.Author.Tests.{ltb-true, ltb-false}
 use Rattle.plane.specs.declared.PlanarPoint.{PlanarPoint}
 use Rattle.front.specs.declared.Edge.{Edge}
 use Rattle.front.specs.declared.Front.{Front}
@@ -63,6 +64,28 @@ free-turn f k s h =
 pub free-law : (f : List Edge) → free f < 128 → links f .live (free f) ≡ 0
 unfolding free
 free-law f = rounds-keep (free-step f) (λ i s. s < 128 → links f .live s ≡ 0) 128 (λ h. absurd (omega arith)) (free-turn f) 128
+
+-- it is the first: each slot before it is alive
+record FreeAt (f : List Edge) (k s : ℕ) : Type 0 where
+  past : s < 128 → s < k
+  taken : (x : ℕ) → x < s → x < 128 → x < k → links f .live x ≡ 1
+
+free-at : (f : List Edge) (k s : ℕ) → FreeAt f k s → FreeAt f (suc k) (free-step f k s)
+unfolding free-step
+free-at f k s h =
+    by-test (FreeAt f (suc k)) (ltb s 128)
+    (λ q. record { past = λ l. omega (arith, h .past l); taken = λ x a b c. h .taken x a b (omega (arith, h .past (ltb-true s 128 q))) })
+    (λ q. by-test (FreeAt f (suc k)) ((edge f k) .alive)
+    (λ e. record { past = λ l. absurd (omega arith); taken = λ x a b c. go x b c e (ltb-false s 128 q) (ltb x k) refl })
+    (λ e. record { past = λ l. omega arith; taken = λ x a b c. h .taken x (omega (arith, ltb-false s 128 q)) b a }))
+  where
+    go : (x : ℕ) → x < 128 → x < suc k → (edge f k) .alive ≡ true → 128 ≤ s → (b : Bool) → ltb x k ≡ b → links f .live x ≡ 1
+    go x a c e z true q = h .taken x (omega arith) a (ltb-true x k q)
+    go x a c e z false q = subst (λ (y : ℕ). links f .live y ≡ 1) (omega (arith, ltb-false x k q)) (ap bit e)
+
+pub free-first : (f : List Edge) (x : ℕ) → x < free f → x < 128 → links f .live x ≡ 1
+unfolding free
+free-first f x a b = rounds-keep (free-step f) (FreeAt f) 128 (record { past = λ l. absurd (omega arith); taken = λ y l m n. absurd (omega arith) }) (free-at f) 128 .taken x a b b
 
 -- what the event search owes: live edges, the one hit neither the vertex's own nor the one before it
 pub record Hits (f : List Edge) (v e : ℕ) : Type 0 where

@@ -6,7 +6,7 @@ use mathlib.Core.List.{List, [], _∷_}
 use Prim.Native.Nat.{ℕ, zero, suc, _+_, _*_, _≤_}
 use native.Mathlib.Omega.{arith}
 use lib.ListN.{length, take, length-append}
-use lib.Ieee.{Float, lt, le}
+use lib.Ieee.{lt, le}
 use Rattle.front.specs.declared.Tidy.the-variants.{Settled}
 use Rattle.front.specs.declared.Event.the-variants.{Stalled}
 use Rattle.front.specs.declared.Sweep.{Sweep}
@@ -16,12 +16,12 @@ use Rattle.loops.specs.Loop.{rounds}
 use Rattle.front.specs.Sweeps.{sweep-tidied, sweep-step}
 use Rattle.front.specs.Tidying.{find-tidy, tidy}
 use Rattle.front.specs.Links.{links}
-use Rattle.front.specs.Demand.{going, Turn, turn, turns, tidied, Looks, Leads, Each, found, Works, completed, events}
+use Rattle.front.specs.Demand.{Givens, going, Turn, turn, turns, tidied, Looks, Leads, Each, found, Works, Finds, completed, events}
 use Rattle.front.specs.Edges.{edge}
 use Rattle.front.specs.Velocity.{Turned-left}
 use Rattle.loops.proofs.Laws.{steady, still, rounds-keep}
 use Rattle.front.proofs.Demand.Tallies.{Adds, adds-none, adds-then, Bound, bound-none, bound-then, by-any-point, completed-one}
-use Rattle.front.proofs.Demand.Sweeps.{Stands, State, Turned, turned, turn-settled, turn-stands, turn-seeks, turn-lines, turn-lives, turn-never}
+use Rattle.front.proofs.Demand.Sweeps.{Stands, State, Turned, turned, turn-finds, turn-settled, turn-stands, turn-seeks, turn-lines, turn-lives, turn-never}
 
 pub each : (P Q : Turn → Type 0) → ((t : Turn) → P t → Q t) → (ts : List Turn) → Each P ts → Each Q ts
 each P Q f [] h = tt
@@ -29,31 +29,32 @@ each P Q f (t ∷ ts) h = (f t (h .0), each P Q f ts (h .1))
 
 -- ---- the loop's own turns
 
-step-going : (d : Float) (s : Sweep) (k : ℕ) → going s ≡ true → sweep-step d k s ≡ (turn d s) .to
+step-going : (given : Givens) (s : Sweep) (k : ℕ) → going s ≡ true → sweep-step (given .distance) k s ≡ (turn given s) .to
 unfolding sweep-step
-step-going d s k w = ap (λ (b : Bool). cond b (sweep-tidied d s (tidy (s .edges) (s .travelled))) s) w
+step-going given s k w = ap (λ (b : Bool). cond b (sweep-tidied (given .distance) s (tidy (s .edges) (s .travelled))) s) w
 
-step-done : (d : Float) (s : Sweep) → going s ≡ false → (k : ℕ) → sweep-step d k s ≡ s
+step-done : (given : Givens) (s : Sweep) → going s ≡ false → (k : ℕ) → sweep-step (given .distance) k s ≡ s
 unfolding sweep-step
-step-done d s w k = ap (λ (b : Bool). cond b (sweep-tidied d s (tidy (s .edges) (s .travelled))) s) w
+step-done given s w k = ap (λ (b : Bool). cond b (sweep-tidied (given .distance) s (tidy (s .edges) (s .travelled))) s) w
 
-same-step : (d : Float) (k m : ℕ) (s : Sweep) → sweep-step d k s ≡ sweep-step d m s
+same-step : (given : Givens) (k m : ℕ) (s : Sweep) → sweep-step (given .distance) k s ≡ sweep-step (given .distance) m s
 unfolding sweep-step
-same-step d k m s = refl
+same-step given k m s = refl
 
-rounds-going : (d : Float) (s : Sweep) (m : ℕ) → going s ≡ true → rounds (sweep-step d) (suc m) s ≡ rounds (sweep-step d) m ((turn d s) .to)
-rounds-going d s m w = steady (sweep-step d) (same-step d) m s ∙ ap (rounds (sweep-step d) m) (step-going d s 0 w)
+rounds-going : (given : Givens) (s : Sweep) (m : ℕ) → going s ≡ true → rounds (sweep-step (given .distance)) (suc m) s ≡ rounds (sweep-step (given .distance)) m ((turn given s) .to)
+rounds-going given s m w = steady (sweep-step (given .distance)) (same-step given) m s ∙ ap (rounds (sweep-step (given .distance)) m) (step-going given s 0 w)
 
-pub rounds-done : (d : Float) (s : Sweep) (m : ℕ) → going s ≡ false → rounds (sweep-step d) m s ≡ s
-rounds-done d s m w = still (sweep-step d) s (step-done d s w) m
+pub rounds-done : (given : Givens) (s : Sweep) (m : ℕ) → going s ≡ false → rounds (sweep-step (given .distance)) m s ≡ s
+rounds-done given s m w = still (sweep-step (given .distance)) s (step-done given s w) m
 
-module _ (d : Float) (near : finite d ≡ true) (b : ℕ) where
+module _ (given : Givens) (near : finite (given .distance) ≡ true) (b : ℕ) where
   pub record TurnIs (t : Turn) : Type 0 where
     pub works : going (t .to) ≡ true → Works ((tidied t) .edges) (found t) (t .to .edges)
+    pub finds : Looks t → Finds ((tidied t) .edges) (found t)
     pub lives : (x : ℕ) → links ((tidied t) .edges) .live x ≡ 1 → links (t .from .edges) .live x ≡ 1
     pub stands : Looks t → Stands ((tidied t) .edges)
-    pub never : le d (add (t .from .travelled) infinity) ≡ true
-    pub before : going (t .to) ≡ true → lt (t .to .travelled) d ≡ true
+    pub never : le (given .distance) (add (t .from .travelled) infinity) ≡ true
+    pub before : going (t .to) ≡ true → lt (t .to .travelled) (given .distance) ≡ true
     pub settled : Looks t → ((tidied t) .changed ≡ false) × (find-tidy ((tidied t) .edges) (t .from .travelled) ≡ Settled)
     pub seeks : Looks t → found t ≢ Stalled
     pub lines : (x : ℕ) → links ((tidied t) .edges) .live x ≡ 1 → Turned-left ((edge ((tidied t) .edges) x) .line)
@@ -61,7 +62,7 @@ module _ (d : Float) (near : finite d ≡ true) (b : ℕ) where
 
   -- the turns ts from the sweep s on, of m rounds that lead to z
   pub record RunIs (m : ℕ) (s z : Sweep) (ts : List Turn) : Type 0 where
-    pub leads : Leads d s ts z
+    pub leads : Leads given s ts z
     pub all : Each TurnIs ts
     pub adds : Adds s z (events ts)
     pub bound : (k : ℕ) → Bound b s (take k (events ts))
@@ -81,12 +82,12 @@ module _ (d : Float) (near : finite d ≡ true) (b : ℕ) where
       none zero = bound-none b s h
       none (suc k) = bound-none b s h
 
-  module _ (i : ℕ) (s : Sweep) (h : State d near b i s) (w : going s ≡ true) where
+  module _ (i : ℕ) (s : Sweep) (h : State given near b i s) (w : going s ≡ true) where
     abbrev t : Turn
-    t = turn d s
+    t = turn given s
 
-    now : Turned d near b i s (t .to) ((tidied t) .edges) (found t) ((tidied t) .stalled)
-    now = turned d near b i s h w
+    now : Turned given near b i s (t .to) ((tidied t) .edges) (found t) ((tidied t) .stalled)
+    now = turned given near b i s h w
 
     now-adds : Adds s (t .to) (completed t)
     unfolding completed
@@ -95,13 +96,14 @@ module _ (d : Float) (near : finite d ≡ true) (b : ℕ) where
     is : TurnIs t
     is = record {
       works = now .works;
-      lives = turn-lives d near b i s h w;
-      stands = turn-stands d near b i s h w;
-      never = turn-never d near b i s h w;
+      finds = turn-finds given near b i s h w;
+      lives = turn-lives given near b i s h w;
+      stands = turn-stands given near b i s h w;
+      never = turn-never given near b i s h w;
       before = now .before;
-      settled = turn-settled d near b i s h w;
-      seeks = turn-seeks d near b i s h w;
-      lines = turn-lines d near b i s h w;
+      settled = turn-settled given near b i s h w;
+      seeks = turn-seeks given near b i s h w;
+      lines = turn-lines given near b i s h w;
       refused = now .refused;
     }
 
@@ -116,22 +118,22 @@ module _ (d : Float) (near : finite d ≡ true) (b : ℕ) where
       limit = omega (arith, length-append (completed t) (events ts), completed-one t, r .limit);
     }
 
-  pub run-law : (m i : ℕ) (s : Sweep) → State d near b i s → RunIs m s (rounds (sweep-step d) m s) (turns d m s)
+  pub run-law : (m i : ℕ) (s : Sweep) → State given near b i s → RunIs m s (rounds (sweep-step (given .distance)) m s) (turns given m s)
   unfolding turns rounds
   run-law zero i s h = no-turn 0 s s refl (h .bounded)
-  run-law (suc m) i s h = go (going s) refl (λ w. run-law m (suc i) ((turn d s) .to) (turned d near b i s h w .state))
+  run-law (suc m) i s h = go (going s) refl (λ w. run-law m (suc i) ((turn given s) .to) (turned given near b i s h w .state))
     where
-      go : (o : Bool) → going s ≡ o → (going s ≡ true → RunIs m ((turn d s) .to) (rounds (sweep-step d) m ((turn d s) .to)) (turns d m ((turn d s) .to)))
-          → RunIs (suc m) s (rounds (sweep-step d) (suc m) s) (cond o (turn d s ∷ turns d m ((turn d s) .to)) [])
-      go true w r = subst (λ (z : Sweep). RunIs (suc m) s z (turn d s ∷ turns d m ((turn d s) .to))) (sym (rounds-going d s m w)) (turn-more i s h w m _ _ (r w))
-      go false w r = no-turn (suc m) s (rounds (sweep-step d) (suc m) s) (sym (rounds-done d s (suc m) w)) (h .bounded)
+      go : (o : Bool) → going s ≡ o → (going s ≡ true → RunIs m ((turn given s) .to) (rounds (sweep-step (given .distance)) m ((turn given s) .to)) (turns given m ((turn given s) .to)))
+          → RunIs (suc m) s (rounds (sweep-step (given .distance)) (suc m) s) (cond o (turn given s ∷ turns given m ((turn given s) .to)) [])
+      go true w r = subst (λ (z : Sweep). RunIs (suc m) s z (turn given s ∷ turns given m ((turn given s) .to))) (sym (rounds-going given s m w)) (turn-more i s h w m _ _ (r w))
+      go false w r = no-turn (suc m) s (rounds (sweep-step (given .distance)) (suc m) s) (sym (rounds-done given s (suc m) w)) (h .bounded)
 
-  step-state : (i : ℕ) (s : Sweep) → State d near b i s → State d near b (suc i) (sweep-step d i s)
+  step-state : (i : ℕ) (s : Sweep) → State given near b i s → State given near b (suc i) (sweep-step (given .distance) i s)
   unfolding sweep-step
   step-state i s h = go (going s) refl
     where
-      go : (o : Bool) → going s ≡ o → State d near b (suc i) (cond o ((turn d s) .to) s)
-      go true w = turned d near b i s h w .state
+      go : (o : Bool) → going s ≡ o → State given near b (suc i) (cond o ((turn given s) .to) s)
+      go true w = turned given near b i s h w .state
       go false w = record {
         bounded = h .bounded;
         most = omega (arith, h .most);
@@ -141,5 +143,5 @@ module _ (d : Float) (near : finite d ≡ true) (b : ℕ) where
         other = h .other;
       }
 
-  pub rounds-state : (s : Sweep) → State d near b 0 s → (k : ℕ) → State d near b k (rounds (sweep-step d) k s)
-  rounds-state s h k = rounds-keep (sweep-step d) (State d near b) s h step-state k
+  pub rounds-state : (s : Sweep) → State given near b 0 s → (k : ℕ) → State given near b k (rounds (sweep-step (given .distance)) k s)
+  rounds-state s h k = rounds-keep (sweep-step (given .distance)) (State given near b) s h step-state k

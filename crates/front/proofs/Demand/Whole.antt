@@ -17,7 +17,7 @@ use Rattle.loops.specs.Loop.{rounds}
 use Rattle.ring.specs.Ring.{vertex-at}
 use Rattle.front.specs.Loading.{load-ring, loaded-nothing, Loads, outer, hole}
 use Rattle.front.specs.Sweeps.{sweep-from, sweep-step, finished, offset-rings}
-use Rattle.front.specs.Demand.{going, turns, run, tally, handed, FrontDemand}
+use Rattle.front.specs.Demand.{Givens, givens, going, turns, run, tally, handed, FrontDemand}
 use Rattle.front.specs.Velocity.{FrontVelocity}
 use Rattle.front.specs.LoadLaws.{LoadGranted, LoadRefused, RefusedCounts, FirstCounts}
 use Rattle.front.proofs.Demand.Rates.{Bounded, SmallPoint}
@@ -76,12 +76,12 @@ loads-other d origin n r l w = other (l .refusal) (well d origin n r l w .refusa
 pub front-demand : FrontDemand
 front-demand d origin n r l near w =
     let h : Well d origin n r l = well d origin n r l w in
-    demand d near n r (h .enough) l (h .loads) (other (l .refusal) (h .refusal))
+    demand (givens d l) near n r (h .enough) l (h .loads) (other (l .refusal) (h .refusal))
 
 pub front-velocity : FrontVelocity
 front-velocity d origin n r l near w =
     let h : Well d origin n r l = well d origin n r l w in
-    velocity d near n r (h .enough) l (h .loads) (other (l .refusal) (h .refusal))
+    velocity (givens d l) near n r (h .enough) l (h .loads) (other (l .refusal) (h .refusal))
 
 -- ---- loading granted, and loading refused
 
@@ -94,14 +94,14 @@ pub load-refused : LoadRefused
 load-refused d origin n r l w = well d origin n r l w .refusal
 
 -- nothing is made of a sweep that does not go on
-idle : (d : Float) (s : Sweep) → going s ≡ false → (turns d 387 s ≡ []) × (finished d (rounds (sweep-step d) 387 s) ≡ s)
+idle : (given : Givens) (s : Sweep) → going s ≡ false → (turns given 387 s ≡ []) × (finished (given .distance) (rounds (sweep-step (given .distance)) 387 s) ≡ s)
 unfolding turns finished
-idle d s q = (rw q refl, ap (finished d) (rounds-done d s 387 q) ∙ rw q refl)
+idle given s q = (rw q refl, ap (finished (given .distance)) (rounds-done given s 387 q) ∙ rw q refl)
 
 pub refused-counts : RefusedCounts
 unfolding sweep-from offset-rings tally
 refused-counts d l q =
-    let h : (run d l ≡ []) × (offset-rings d l ≡ sweep-from l) = idle d (sweep-from l) (ap (λ (b : Bool). b && true) q) in
+    let h : (run (givens d l) l ≡ []) × (offset-rings d l ≡ sweep-from l) = idle (givens d l) (sweep-from l) (ap (λ (b : Bool). b && true) q) in
     (h .0, ap handed (h .1), ap (λ (s : Sweep). s .refusal) (h .1))
 
 pub first-counts : FirstCounts
