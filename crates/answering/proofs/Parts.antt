@@ -60,10 +60,6 @@ pub hole-most : (counts : List ℕ) (holes k c : ℕ) → holes-fit counts holes
 unfolding holes-fit hole-fit-step
 hole-most counts holes k c e l h = subst (λ (n : ℕ). n ≤ 32) (sym h) (leb-true (getD counts k 0) 32 (tested-at holes (λ i. leb (getD counts i 0) 32) e k l))
 
-pub fit-next : (counts : List ℕ) (k c : ℕ) (fit : Bool) → c ≡ getD counts k 0 → (fit && leb c 32) ≡ hole-fit-step counts k fit
-unfolding hole-fit-step
-fit-next counts k c fit h = ap (λ (n : ℕ). fit && leb n 32) h
-
 pub sum-next : (counts : List ℕ) (k c sum : ℕ) → c ≡ getD counts k 0 → sum + c ≡ vertices-step counts k sum
 unfolding vertices-step
 sum-next counts k c sum h = ap (λ (n : ℕ). sum + n) h
