@@ -1,5 +1,5 @@
--- Reading a job line, and the lent memory afterwards: 22, then 20 of the vertex counts, then 20 of the coordinates. A refused read changes neither.
--- Assumes nothing.
+-- Reading a job line, and the lent memory afterwards: 22, then 20 of the vertex counts, then 20 of the coordinates.
+-- A refused read changes neither. Assumes nothing.
 use Prim.Native.Nat.{ℕ, _+_, _-_, _≤_}
 use mathlib.Core.Bool.{Bool, true, false, cond, _&&_}
 use mathlib.Core.Path.{_≡_}
@@ -15,7 +15,8 @@ use Rattle.error.specs.Refusals.{granted}
 use Rattle.jobs.specs.Numerals.{float-of, count-of}
 use Rattle.jobs.specs.Fields.{fields, fields-from}
 use Rattle.jobs.specs.Jobs.{side-fits}
-use Rattle.jobs.specs.Lines.{ParsedJob, outset-word, same-bytes, longest-line, side-field, distance-field, rings-field, head-formed, are-counts, counts-of, are-floats, floats-of, parse-job}
+use Rattle.jobs.specs.Lines.{ParsedJob, parse-job, are-counts, counts-of, are-floats, floats-of}
+use Rattle.jobs.specs.Lines.{outset-word, same-bytes, longest-line, side-field, distance-field, rings-field, head-formed}
 use Rattle.reading.specs.declared.Parsed.{Parsed}
 
 -- ---- what reading a line answers
@@ -96,11 +97,13 @@ unfoldable pub lists-refusal : {A : Type 0} → List (List ℕ) → ℕ → List
 lists-refusal fs r counts numbers = cond (lists-formed fs r) (room-refusal r (length fs - r) counts numbers) Job
 
 -- what reading them hands back, and the lent memory afterwards
-pub record ListsRead (fs : List (List ℕ)) (r : ℕ) (lengths₀ lengths₁ : List ℕ) (coordinates₀ coordinates₁ : List Float) (refusal : Refusal) (count : ℕ) : Type 0 where
+pub record ListsRead (fs : List (List ℕ)) (r : ℕ) (lengths₀ lengths₁ : List ℕ) (coordinates₀ coordinates₁ : List Float)
+    (refusal : Refusal) (count : ℕ) : Type 0 where
   pub refusal-is : refusal ≡ lists-refusal fs r lengths₀ coordinates₀
   pub count-is : count ≡ cond (granted (lists-refusal fs r lengths₀ coordinates₀)) (length fs - r) 0
   pub lengths-are : lengths₁ ≡ front-written (granted (lists-refusal fs r lengths₀ coordinates₀)) (counts-of fs 0 r) lengths₀
-  pub coordinates-are : coordinates₁ ≡ front-written (granted (lists-refusal fs r lengths₀ coordinates₀)) (floats-of fs r (length fs - r)) coordinates₀
+  pub coordinates-are :
+      coordinates₁ ≡ front-written (granted (lists-refusal fs r lengths₀ coordinates₀)) (floats-of fs r (length fs - r)) coordinates₀
 
 -- ---- the head of a line
 
@@ -133,7 +136,8 @@ RoomEnough =
 abbrev pub SameLengths : Type 0
 SameLengths =
     (line lengths : List ℕ) (coordinates : List Float)
-    → (length (lengths-written line lengths coordinates) ≡ length lengths) × (length (coordinates-written line lengths coordinates) ≡ length coordinates)
+    → (length (lengths-written line lengths coordinates) ≡ length lengths)
+    × (length (coordinates-written line lengths coordinates) ≡ length coordinates)
 
 -- opens every definition above, for a proof that computes with all of them
 unfoldable pub open-reads : Unit {0}

@@ -28,12 +28,16 @@ fn refused(refusal: Refusal) -> Parsed
     }
 }
 
-// A line, without its LF: 22, then 20 of the vertex counts, then 20 of the coordinates. They stand at the front of the lent memory, and a refused read
-// changes nothing. 999 and 962 numbers are room for every line.
+// A line, without its LF: 22, then 20 of the vertex counts, then 20 of the coordinates. They stand at the front of the lent memory,
+// and a refused read changes nothing. 999 and 962 numbers are room for every line.
 pub fn parse_job<'a>(line: &'a [u8], lengths: &'a mut [usize], coordinates: &'a mut [f64]) -> Parsed
     ensures answered { λ r. ⌜ r ≡ Reads.parse-answered (now (line .entry)) (now (lengths .entry)) (now (coordinates .entry)) ⌝ }
-    ensures counted { λ _. ⌜ now (lengths .exit) ≡ Reads.lengths-written (now (line .entry)) (now (lengths .entry)) (now (coordinates .entry)) ⌝ }
-    ensures numbered { λ _. ⌜ now (coordinates .exit) ≡ Reads.coordinates-written (now (line .entry)) (now (lengths .entry)) (now (coordinates .entry)) ⌝ }
+    ensures counted { λ _. ⌜
+        now (lengths .exit) ≡ Reads.lengths-written (now (line .entry)) (now (lengths .entry)) (now (coordinates .entry))
+        ⌝ }
+    ensures numbered { λ _. ⌜
+        now (coordinates .exit) ≡ Reads.coordinates-written (now (line .entry)) (now (lengths .entry)) (now (coordinates .entry))
+        ⌝ }
 {
     let head = head::head_of(line);
     if head.formed {

@@ -20,7 +20,11 @@ same-length-2 : tie.Need-same-length-2
 same-length-2 c = search needs
 
 returns : tie.Need-returns
-returns c = given _ _ _ _ _ _ _ _ _ _ (c .before .before .before .before .before .before .before .before .before .before .head-of .ensures) (c .before .before .before .before .before .before .before .before .before .if1 .taken) _ _ (c .before .before .before .before .before .before .read-lists .ensures) _ (c .before .granted .ensures) (c .if2 .taken)
+returns c =
+    let head = c .before .before .before .before .before .before .before .before .before .before .head-of .ensures in
+    let formed = c .before .before .before .before .before .before .before .before .before .if1 .taken in
+    let lists = c .before .before .before .before .before .before .read-lists .ensures in
+    given _ _ _ _ _ _ _ _ _ _ head formed _ _ lists _ (c .before .granted .ensures) (c .if2 .taken)
 
 refused-requires : tie.Need-refused-requires
 refused-requires c κs = search needs
@@ -32,7 +36,11 @@ same-length-4 : tie.Need-same-length-4
 same-length-4 c = search needs
 
 returns-2 : tie.Need-returns-2
-returns-2 c = refused _ _ _ _ _ _ _ _ _ _ (c .before .before .before .before .before .before .before .before .before .before .before .head-of .ensures) (c .before .before .before .before .before .before .before .before .before .before .if1 .taken) _ _ (c .before .before .before .before .before .before .before .read-lists .ensures) _ (c .before .before .granted .ensures) (c .before .if2 .left) _ (c .refused .ensures)
+returns-2 c =
+    let head = c .before .before .before .before .before .before .before .before .before .before .before .head-of .ensures in
+    let formed = c .before .before .before .before .before .before .before .before .before .before .if1 .taken in
+    let lists = c .before .before .before .before .before .before .before .read-lists .ensures in
+    refused _ _ _ _ _ _ _ _ _ _ head formed _ _ lists _ (c .before .before .granted .ensures) (c .before .if2 .left) _ (c .refused .ensures)
 
 refused-requires-2 : tie.Need-refused-requires-2
 refused-requires-2 c κs = search needs

@@ -23,10 +23,22 @@ same-length-2 : tie.Need-same-length-2
 same-length-2 c = search needs
 
 returns : tie.Need-returns
-returns c = all-read _ _ _ _ _ _ _ (c .before .before .before .before .before .before .before .before .before .before .before .before .before .before .check-counts .ensures) (c .before .before .before .before .before .before .before .before .before .before .before .before .before .if1 .taken) _ _ (c .before .before .before .before .before .before .before .before .before .before .before .before .check-floats .ensures) (c .before .before .before .before .before .before .before .before .before .before .before .if2 .taken) (c .before .before .before .before .before .before .before .before .before .before .if3 .taken) (c .before .before .before .before .before .before .before .before .if4 .taken) _ _ _ _ (c .before .before .before .before .before .before .read-counts .ensures) _ _ (c .before .before .read-floats .ensures)
+returns c =
+    let counted = c .before .before .before .before .before .before .before .before .before .before .before .before .before .before .check-counts .ensures in
+    let formed = c .before .before .before .before .before .before .before .before .before .before .before .before .before .if1 .taken in
+    let looked = c .before .before .before .before .before .before .before .before .before .before .before .before .check-floats .ensures in
+    let whole = c .before .before .before .before .before .before .before .before .before .before .before .if2 .taken in
+    let few = c .before .before .before .before .before .before .before .before .before .before .if3 .taken in
+    let fewer = c .before .before .before .before .before .before .before .before .if4 .taken in
+    all-read _ _ _ _ _ _ _ counted formed _ _ looked whole few fewer _ _ _ _ (c .before .before .before .before .before .before .read-counts .ensures) _ _ (c .before .before .read-floats .ensures)
 
 returns-2 : tie.Need-returns-2
-returns-2 c = short-coordinates _ _ _ _ _ _ _ (c .before .before .before .before .before .before .check-counts .ensures) (c .before .before .before .before .before .if1 .taken) _ _ (c .before .before .before .before .check-floats .ensures) (c .before .before .before .if2 .taken) (c .before .before .if3 .taken) (c .if4 .left)
+returns-2 c =
+    let counted = c .before .before .before .before .before .before .check-counts .ensures in
+    let formed = c .before .before .before .before .before .if1 .taken in
+    let looked = c .before .before .before .before .check-floats .ensures in
+    let whole = c .before .before .before .if2 .taken in
+    short-coordinates _ _ _ _ _ _ _ counted formed _ _ looked whole (c .before .before .if3 .taken) (c .if4 .left)
 
 returns-3 : tie.Need-returns-3
 returns-3 c = short-counts _ _ _ _ _ _ _ (c .before .before .before .before .check-counts .ensures) (c .before .before .before .if1 .taken) _ _ (c .before .before .check-floats .ensures) (c .before .if2 .taken) (c .if3 .left)
