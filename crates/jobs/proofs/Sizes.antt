@@ -1,10 +1,10 @@
 -- What an accepted job hands back passes 21, and so its answer line is short enough. Assumes nothing.
 use Prim.Native.Nat.{ℕ, zero, suc, _+_, _*_, _%_, _≤_, _<_, min}
-use native.Mathlib.Nat.{le-refl, le-step, le-trans, le-of-eq, le-of-suc-le-suc}
+use native.Mathlib.Nat.{le-refl, le-step, le-trans, le-of-suc-le-suc}
 use native.Mathlib.Omega.{arith}
 use mathlib.Core.Bool.{Bool, true, false, cond, false≢true}
-use mathlib.Core.Path.{_≡_, refl, sym, ap, _∙_, subst}
-use mathlib.Core.List.{List, [], _∷_, _++_}
+use mathlib.Core.Path.{_≡_, refl, sym, _∙_, subst}
+use mathlib.Core.List.{List, [], _∷_}
 use borrow.Author.Tests.{leb-true}
 use lib.Dec.{leb, ltb, eqb, lit≤}
 use lib.Ieee.{Float, nan}

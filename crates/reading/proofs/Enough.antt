@@ -4,7 +4,7 @@ use native.Mathlib.Nat.{le-trans}
 use native.Mathlib.Omega.{arith}
 use mathlib.Core.Bool.{Bool, true, false, cond, false≢true}
 use mathlib.Core.Path.{_≡_, refl, sym, ap, _∙_}
-use mathlib.Core.List.{List, _++_}
+use mathlib.Core.List.{List}
 use lib.Dec.{leb}
 use lib.ListN.{length, take, drop, length-append, length-drop}
 use lib.Seq.{take-append-seam}
@@ -16,7 +16,6 @@ use Rattle.error.specs.Refusals.{granted, open-refusals}
 use Rattle.error.proofs.Laws.{granted-is}
 use Rattle.jobs.specs.Lines.{ParsedJob, parse-job}
 use Rattle.jobs.proofs.Room.{line-room}
-use Rattle.reading.specs.declared.Parsed.{Parsed}
 use Rattle.reading.specs.Reads.{room-refusal, parse-refusal, unparsed, parsed-all, answered-by, front-written, lengths-written, coordinates-written, RoomEnough, SameLengths}
 
 -- ---- room for every line

@@ -10,7 +10,7 @@ use Rattle.loops.specs.Loop.{rounds}
 use Rattle.jobs.specs.Fields.{fields}
 use Rattle.jobs.specs.Jobs.{side-fits}
 use Rattle.jobs.specs.Lines.{longest-line, head-formed, numbers-formed, well-formed, job-of, ParsedJob, ill-formed, parsed-by, parsed, parse-job}
-use Rattle.reading.specs.Reads.{Taken, take-number, taken, is-outward, ring-number, head-fits}
+use Rattle.reading.specs.Reads.{take-number, taken, is-outward, ring-number, head-fits}
 use Rattle.reading.proofs.Takes.{going, left}
 
 -- ---- the tests of a walk

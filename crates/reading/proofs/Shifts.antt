@@ -1,18 +1,14 @@
 -- The lists of a line by its own fields: those after the first m. Assumes nothing.
-use Prim.Native.Nat.{ℕ, _+_, _-_, _≤_}
+use Prim.Native.Nat.{ℕ, _+_, _-_}
 use native.Mathlib.Nat.{zero-add, add-assoc}
 use native.Mathlib.Omega.{arith}
 use mathlib.Core.Bool.{Bool, true, false, cond, _&&_}
-use mathlib.Core.Path.{_≡_, refl, sym, ap, _∙_, subst}
+use mathlib.Core.Path.{_≡_, refl, sym, ap, _∙_}
 use mathlib.Core.List.{List, [], _∷_, _++_}
-use lib.Dec.{leb}
 use lib.Ieee.{Float}
 use lib.ListN.{getD, length, drop, length-drop}
 use lib.Seq.{getD-drop}
-use Rattle.error.specs.declared.Refusal.{Refusal}
-use Rattle.error.specs.declared.Refusal.the-variants.{Granted, Short, Job}
-use Rattle.error.specs.Refusals.{granted, open-refusals}
-use Rattle.loops.specs.Loop.{rounds}
+use Rattle.error.specs.declared.Refusal.the-variants.{Job}
 use Rattle.jobs.specs.Numerals.{is-float, float-of, is-count, count-of}
 use Rattle.jobs.specs.Lines.{are-counts, counts-test-step, counts-of, counts-step, are-floats, floats-test-step, floats-of, floats-step, numbers-formed, coordinate-count}
 use Rattle.jobs.proofs.Walks.{made-length}

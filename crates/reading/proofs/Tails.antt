@@ -10,7 +10,6 @@ use borrow.Author.Tests.{le-leb, lt-leb}
 use Rattle.error.specs.declared.Refusal.{Refusal}
 use Rattle.error.specs.declared.Refusal.the-variants.{Granted, Short, Job}
 use Rattle.error.specs.Refusals.{granted, open-refusals}
-use Rattle.loops.specs.Loop.{rounds}
 use Rattle.jobs.specs.Numerals.{is-float, float-of, is-count, count-of}
 use Rattle.jobs.specs.Fields.{fields-from}
 use Rattle.jobs.specs.Lines.{are-counts, counts-test-step, counts-of, counts-step, are-floats, floats-test-step, floats-of, floats-step}

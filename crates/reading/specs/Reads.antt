@@ -1,11 +1,11 @@
 -- Reading a job line, and the lent memory afterwards: 22, then 20 of the vertex counts, then 20 of the coordinates.
 -- A refused read changes neither. Assumes nothing.
-use Prim.Native.Nat.{ℕ, _+_, _-_, _≤_}
+use Prim.Native.Nat.{ℕ, _-_, _≤_}
 use mathlib.Core.Bool.{Bool, true, false, cond, _&&_}
 use mathlib.Core.Path.{_≡_}
 use mathlib.Core.List.{List, [], _++_}
 use lib.Dec.{leb}
-use lib.ListN.{getD, set, length, take, drop}
+use lib.ListN.{getD, set, length, drop}
 use lib.Ieee.{Float}
 use Rattle.error.specs.declared.Refusal.{Refusal}
 use Rattle.error.specs.declared.Refusal.the-variants.{Granted, Short, Job}

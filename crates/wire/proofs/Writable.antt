@@ -1,9 +1,6 @@
 -- What a job hands back can always be written: an accepted shape passes 21. Assumes nothing.
-use Prim.Native.Nat.{ℕ}
 use mathlib.Core.Bool.{Bool, true, false, not, _||_}
 use mathlib.Core.Path.{_≡_, refl}
-use mathlib.Core.List.{List}
-use lib.Ieee.{Float}
 use Rattle.error.specs.Refusals.{granted}
 use Rattle.region.specs.declared.RegionOffset.{RegionOffset}
 use Rattle.region.specs.Checks.{proper-region}

@@ -1,6 +1,5 @@
 -- `answering::answer_bytes` meets its contract. Assumes nothing.
 use borrow.Author.Needs.{needs}
-use mathlib.Core.Path.{sym, _∙_}
 use Rattle.answering.proofs.Whole.{refused-answered, refused-written, shape-answered, shape-written, unfit-answered, unfit-written, outer-in, holes-few, holes-short}
 use Rattle.answering.proofs.answer_bytes.Statement.{statement}
 use Rattle.answering.proofs.answer_bytes.Tie as tie

@@ -1,6 +1,6 @@
 -- `reading::walk::check_counts` meets its contract. Assumes nothing.
 use Prim.Native.Nat.{_-_, _≤_}
-use mathlib.Core.Path.{_≡_, refl}
+use mathlib.Core.Path.{refl}
 use mathlib.Core.List.{[]}
 use Rattle.jobs.specs.Numerals.{is-count, count-of}
 use Rattle.jobs.specs.Fields.{fields-from}

@@ -1,6 +1,6 @@
 -- `reading::walk::check_floats` meets its contract. Assumes nothing.
 use Prim.Native.Nat.{_+_, _-_, _≤_}
-use mathlib.Core.Path.{_≡_, refl}
+use mathlib.Core.Path.{refl}
 use mathlib.Core.List.{[]}
 use lib.ListN.{length}
 use Rattle.math.specs.Number.{zero-float}
