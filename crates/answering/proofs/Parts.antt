@@ -3,7 +3,7 @@ use Prim.Native.Nat.{ℕ, zero, suc, _+_, _-_, _*_, _≤_, _<_}
 use native.Mathlib.Nat.{add-zero, le-refl, le-step, le-trans, le-of-eq, le-antisymm, le-of-lt, mul-suc, mul-add}
 use native.Mathlib.Numerals.{add-one}
 use native.Mathlib.Omega.{arith}
-use mathlib.Core.Bool.{Bool, true, false, cond, _&&_}
+use mathlib.Core.Bool.{Bool, true, false, cond}
 use mathlib.Core.Path.{_≡_, refl, sym, ap, _∙_, subst}
 use mathlib.Core.List.{List, [], _∷_, _++_, append-nil, append-assoc}
 use lib.Dec.{leb, ltb, lit≤}
@@ -59,10 +59,6 @@ count-most n = go (ltb n 10) (ltb n 100) _ _ _ _ _ _
 pub hole-most : (counts : List ℕ) (holes k c : ℕ) → holes-fit counts holes ≡ true → k < holes → c ≡ getD counts k 0 → c ≤ 32
 unfolding holes-fit hole-fit-step
 hole-most counts holes k c e l h = subst (λ (n : ℕ). n ≤ 32) (sym h) (leb-true (getD counts k 0) 32 (tested-at holes (λ i. leb (getD counts i 0) 32) e k l))
-
-pub fit-next : (counts : List ℕ) (k c : ℕ) (fit : Bool) → c ≡ getD counts k 0 → (fit && leb c 32) ≡ hole-fit-step counts k fit
-unfolding hole-fit-step
-fit-next counts k c fit h = ap (λ (n : ℕ). fit && leb n 32) h
 
 pub sum-next : (counts : List ℕ) (k c sum : ℕ) → c ≡ getD counts k 0 → sum + c ≡ vertices-step counts k sum
 unfolding vertices-step

@@ -3,30 +3,33 @@ use Prim.Native.Nat.{ℕ, zero, suc, _+_, _*_, _≤_, _<_}
 use native.Mathlib.Numerals.{add-one}
 use native.Mathlib.Nat.{le-refl}
 use native.Mathlib.Omega.{arith}
-use mathlib.Core.Bool.{Bool, true, false, cond, not, _&&_, _||_}
+use mathlib.Core.Bool.{Bool, true, false, cond, not, _&&_}
 use mathlib.Core.Path.{_≡_, refl, sym, ap, _∙_, subst}
 use mathlib.Core.List.{List, [], _∷_, _++_}
 use lib.Dec.{leb}
 use lib.ListN.{getD, length, take, drop, length-append}
 use lib.Seq.{length-take-le}
 use lib.Ieee.{Float, nan}
-use borrow.Author.Tests.{le-leb, lt-leb, not-true, not-false}
+use borrow.Author.Tests.{leb-true, le-leb, lt-leb, not-true, not-false}
 use Rattle.loops.specs.Loop.{rounds}
 use Rattle.error.specs.declared.Refusal.{Refusal}
 use Rattle.error.specs.declared.Refusal.the-variants.{Granted, Short, Shape}
 use Rattle.error.specs.Refusals.{granted, number}
 use Rattle.region.specs.declared.Region.{Region}
 use Rattle.region.specs.declared.RegionOffset.{RegionOffset}
+use Rattle.polygon.specs.Outlines.{proper}
 use Rattle.region.specs.Regions.{hole-points, hole-count, ring-points, ring-count}
+use Rattle.region.specs.Checks.{proper-step, proper-region}
+use Rattle.holes.specs.Given.{region-of}
 use Rattle.jobs.specs.Fields.{comma}
 use Rattle.jobs.specs.Numerals.{float-digits, count-digits}
 use Rattle.jobs.specs.Lines.{ok-word, no-word, with-field, count-field-step, with-counts, float-field-step, with-floats, ok-line, no-line, ring-count-step, ring-counts, ring-coordinates-step, ring-coordinates, answer-bytes, bytes-refusal, bytes-written}
-use Rattle.jobs.proofs.Walks.{made, made-length, made-at}
+use Rattle.jobs.proofs.Walks.{made, made-length, made-at, and-left, and-right, tested, tested-at}
 use Rattle.jobs.proofs.Answers.{counts-parts, floats-parts}
 use Rattle.digits.specs.Stores.{put}
 use Rattle.digits.proofs.Puts.{put-front}
 use Rattle.answering.specs.declared.Answered.{Answered}
-use Rattle.answering.specs.Writing.{holes-fit, counts-fit, writable, bytes-answered, answered, answer-written, counts-bytes-step, counts-bytes, hole-numbers, holes-bytes-step, holes-bytes, hole-vertices, head-bytes, shape-bytes}
+use Rattle.answering.specs.Writing.{hole-fit-step, holes-fit, writable, bytes-answered, answered, answer-written, counts-bytes-step, counts-bytes, hole-numbers, holes-bytes-step, holes-bytes, hole-vertices, head-bytes, shape-bytes}
 use Rattle.answering.proofs.Parts.{same-rounds, grown, first-apart, put-more, all-size, holes-size}
 
 -- ---- fields added to a line
@@ -226,43 +229,54 @@ module _ (a : RegionOffset) (l : List ℕ) (g : Bool) (e : g ≡ granted (a .ref
     unfolding answer-bytes
     shape-line = rw is-granted (shape-is (a .shape))
 
-    module _ (fit : Bool) (c : a .shape .outer .count ≤ 128) (k : a .shape .holes ≤ 8) (p : fit ≡ holes-fit (a .shape .counts) (a .shape .holes)) (q : fit ≡ true) where
-      fits : writable a ≡ true
-      unfolding writable counts-fit
-      fits = rw (is-granted, le-leb (a .shape .outer .count) 128 c, le-leb (a .shape .holes) 8 k, sym p ∙ q) refl
+    module _ (t : Bool) (p : t ≡ proper-region (region-of (a .shape .outer .points) (a .shape .outer .count) (a .shape .points) (a .shape .counts) (a .shape .holes))) where
+      asked : t ≡ writable a
+      unfolding writable region-of
+      asked = rw is-granted p
 
-      pub shape-answered : (x : Answered) → x ≡ bytes-answered (shape-bytes (a .shape .outer .points) (a .shape .outer .count) (a .shape .points) (a .shape .counts) (a .shape .holes)) l → x ≡ answered a l
-      unfolding answered
-      shape-answered x r = rw fits (r ∙ ap (λ (bytes : List ℕ). bytes-answered bytes l) (sym shape-line))
+      module _ (q : t ≡ true) where
+        pub shape-answered : (x : Answered) → x ≡ bytes-answered (shape-bytes (a .shape .outer .points) (a .shape .outer .count) (a .shape .points) (a .shape .counts) (a .shape .holes)) l → x ≡ answered a l
+        unfolding answered
+        shape-answered x r = rw (sym asked ∙ q) (r ∙ ap (λ (bytes : List ℕ). bytes-answered bytes l) (sym shape-line))
 
-      pub shape-written : (x : List ℕ) → x ≡ bytes-written (shape-bytes (a .shape .outer .points) (a .shape .outer .count) (a .shape .points) (a .shape .counts) (a .shape .holes)) l → x ≡ answer-written a l
-      unfolding answer-written
-      shape-written x r = rw fits (r ∙ ap (λ (bytes : List ℕ). bytes-written bytes l) (sym shape-line))
+        pub shape-written : (x : List ℕ) → x ≡ bytes-written (shape-bytes (a .shape .outer .points) (a .shape .outer .count) (a .shape .points) (a .shape .counts) (a .shape .holes)) l → x ≡ answer-written a l
+        unfolding answer-written
+        shape-written x r = rw (sym asked ∙ q) (r ∙ ap (λ (bytes : List ℕ). bytes-written bytes l) (sym shape-line))
 
-    unfit : (f : counts-fit (a .shape) ≡ false) → writable a ≡ false
-    unfolding writable
-    unfit f = rw (is-granted, f) refl
+      module _ (q : t ≡ false) where
+        pub unfit-answered : _≡_ {A = Answered} (record { refusal = Shape; count = 0 }) (answered a l)
+        unfolding answered
+        unfit-answered = rw (sym asked ∙ q) refl
 
-    module _ (f : counts-fit (a .shape) ≡ false) where
-      pub unfit-answered : _≡_ {A = Answered} (record { refusal = Shape; count = 0 }) (answered a l)
-      unfolding answered
-      unfit-answered = rw (unfit f) refl
+        pub unfit-written : l ≡ answer-written a l
+        unfolding answer-written
+        unfit-written = rw (sym asked ∙ q) refl
 
-      pub unfit-written : l ≡ answer-written a l
-      unfolding answer-written
-      unfit-written = rw (unfit f) refl
+-- what 21 says of the counts
+room-of : (room : ℕ) (ps : List Float) (n : ℕ) → proper room ps n ≡ true → leb n room ≡ true
+unfolding proper
+room-of room ps n e = and-left (leb n room) _ (and-right (leb 3 n) _ e)
 
-pub many-vertices : (r : Region) → 128 < r .outer .count → counts-fit r ≡ false
-unfolding counts-fit
-many-vertices r h = rw (lt-leb (r .outer .count) 128 h) refl
+module _ (ps : List Float) (n : ℕ) (qs : List Float) (cs : List ℕ) (h : ℕ) (t : Bool) (p : t ≡ proper-region (region-of ps n qs cs h)) (q : t ≡ true) where
+  outer-proper : proper 128 ps n ≡ true
+  unfolding proper-region region-of
+  outer-proper = and-left (proper 128 ps n) _ (sym p ∙ q)
 
-pub many-holes : (r : Region) → r .outer .count ≤ 128 → 8 < r .holes → counts-fit r ≡ false
-unfolding counts-fit
-many-holes r c h = rw (le-leb (r .outer .count) 128 c, lt-leb (r .holes) 8 h) refl
+  holes-proper : (leb h 8 && rounds (proper-step (region-of ps n qs cs h)) h true) ≡ true
+  unfolding proper-region region-of
+  holes-proper = and-right (proper 128 ps n) _ (sym p ∙ q)
 
-pub long-hole : (r : Region) (fit : Bool) → r .outer .count ≤ 128 → r .holes ≤ 8 → fit ≡ holes-fit (r .counts) (r .holes) → fit ≡ false → counts-fit r ≡ false
-unfolding counts-fit
-long-hole r fit c h p q = rw (le-leb (r .outer .count) 128 c, le-leb (r .holes) 8 h, sym p ∙ q) refl
+  pub outer-in : n ≤ 128
+  outer-in = leb-true n 128 (room-of 128 ps n outer-proper)
+
+  pub holes-few : h ≤ 8
+  holes-few = leb-true h 8 (and-left (leb h 8) _ holes-proper)
+
+  pub holes-short : holes-fit cs h ≡ true
+  unfolding holes-fit hole-fit-step proper-step hole-points hole-count region-of
+  holes-short =
+      tested h (λ k. leb (getD cs k 0) 32)
+      (λ k l. room-of 32 (drop (64 * k) qs) (getD cs k 0) (tested-at h (λ i. proper 32 (drop (64 * i) qs) (getD cs i 0)) (and-right (leb h 8) _ holes-proper) k l))
 
 -- where the coordinates of the holes start
 pub place : (head count : ℕ) → head ≤ 42 → count ≤ 128 → head + 34 * count ≤ 5000

@@ -1,4 +1,4 @@
--- An answer line to lent bytes: 21 of the counts, then 20. Assumes nothing.
+-- An answer line to lent bytes: 21 of the shape, then 20. Assumes nothing.
 use Prim.Native.Nat.{ℕ, _+_, _*_}
 use mathlib.Core.Bool.{Bool, true, cond, not, _&&_, _||_}
 use mathlib.Core.List.{List, [], _∷_, _++_}
@@ -7,28 +7,25 @@ use lib.ListN.{getD, length, take, drop}
 use lib.Ieee.{Float}
 use Rattle.error.specs.declared.Refusal.the-variants.{Shape}
 use Rattle.error.specs.Refusals.{granted}
-use Rattle.region.specs.declared.Region.{Region}
 use Rattle.region.specs.declared.RegionOffset.{RegionOffset}
 use Rattle.loops.specs.Loop.{rounds}
+use Rattle.region.specs.Checks.{proper-region}
 use Rattle.jobs.specs.Fields.{comma}
 use Rattle.jobs.specs.Numerals.{count-digits}
 use Rattle.jobs.specs.Lines.{with-field, ok-word, with-floats, answer-bytes, bytes-refusal, bytes-written}
 use Rattle.answering.specs.declared.Answered.{Answered}
 
--- ---- 21: whether a shape's counts are within their room; its coordinates are written as they are
+-- ---- 21, asked first of the shape that is handed in; a refused job has none to write
 
+unfoldable pub writable : RegionOffset → Bool
+writable a = not (granted (a .refusal)) || proper-region (a .shape)
+
+-- what passes 21 has holes of at most 32 vertices
 unfoldable pub hole-fit-step : List ℕ → ℕ → Bool → Bool
 hole-fit-step counts k s = s && leb (getD counts k 0) 32
 
 unfoldable pub holes-fit : List ℕ → ℕ → Bool
 holes-fit counts holes = rounds (hole-fit-step counts) holes true
-
-unfoldable pub counts-fit : Region → Bool
-counts-fit r = leb (r .outer .count) 128 && (leb (r .holes) 8 && holes-fit (r .counts) (r .holes))
-
--- a refused job has no shape to write
-unfoldable pub writable : RegionOffset → Bool
-writable a = not (granted (a .refusal)) || counts-fit (a .shape)
 
 -- ---- 20: what a write of these bytes answers
 
@@ -77,5 +74,5 @@ shape-bytes outer count points counts holes = (head-bytes count counts holes ++ 
 
 -- opens every definition above, for a proof that computes with all of them
 unfoldable pub open-writing : Unit {0}
-unfolding hole-fit-step holes-fit counts-fit writable bytes-answered answered answer-written counts-bytes-step counts-bytes hole-numbers holes-bytes-step holes-bytes vertices-step hole-vertices head-bytes shape-bytes
+unfolding writable hole-fit-step holes-fit bytes-answered answered answer-written counts-bytes-step counts-bytes hole-numbers holes-bytes-step holes-bytes vertices-step hole-vertices head-bytes shape-bytes
 open-writing = tt

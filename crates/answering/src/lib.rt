@@ -24,19 +24,6 @@ pub(crate) fn count_at(counts: &[usize], k: usize) -> usize
     if k < counts.len() { counts[k] } else { 0 }
 }
 
-// Whether each of the first counts is at most 32.
-pub(crate) fn holes_fit(counts: &[usize], holes: usize) -> bool
-    ensures { λ r. ⌜ r ≡ Writing.holes-fit (now (counts .entry)) holes ⌝ }
-{
-    let mut fit = true;
-    let mut k = 0usize;
-    while k < holes {
-        fit = fit & (count_at(counts, k) <= 32);
-        k += 1;
-    }
-    fit
-}
-
 // How many bytes the first counts take.
 pub(crate) fn counts_size(counts: &[usize], holes: usize) -> usize
     requires { ⌜ holes ≤ 8 ⌝ }
@@ -201,7 +188,7 @@ pub(crate) fn ok_line<'a>(
     }
 }
 
-// The answer line of a job, to lent bytes: 21 of its counts, then 20. A refused write changes nothing.
+// The answer line of a job, to lent bytes: 21 of its shape, then 20. A refused write changes nothing.
 pub fn answer_bytes(a: RegionOffset, out: &mut [u8]) -> Answered
     ensures answered { λ r. ⌜ r ≡ Writing.answered a (now (out .entry)) ⌝ }
     ensures written { λ _. ⌜ now (out .exit) ≡ Writing.answer-written a (now (out .entry)) ⌝ }
@@ -217,12 +204,8 @@ pub fn answer_bytes(a: RegionOffset, out: &mut [u8]) -> Answered
     if !refusal.granted() {
         return no_line(refusal.number(), out);
     }
-    if count <= 128 {
-        if holes <= 8 {
-            if holes_fit(&counts, holes) {
-                return ok_line(&numbers, count, &points, &counts, holes, out);
-            }
-        }
+    if holes::proper_region(&numbers, count, &points, &counts, holes) {
+        return ok_line(&numbers, count, &points, &counts, holes, out);
     }
     Answered {
         refusal: Refusal::Shape,

@@ -9,3 +9,4 @@ pub mod Counted
 pub mod Stream
 pub mod Answers
 pub mod Table
+pub mod Sizes

@@ -1,5 +1,5 @@
 -- The walk from field to field of a line, each read to lent memory. Assumes nothing.
-use Prim.Native.Nat.{ℕ, suc, _+_, _-_, _≤_, _<_}
+use Prim.Native.Nat.{ℕ, suc, _+_, _-_, _≤_, _<_, zero-le}
 use native.Mathlib.Nat.{add-zero, le-antisymm}
 use native.Mathlib.Omega.{arith}
 use mathlib.Core.Bool.{Bool, true, false, cond, false≢true}
@@ -156,3 +156,8 @@ falls n at next h l = omega arith
 -- a number that has no room is left out
 pub no-room : {A : Type 0} (out : List A) (k : ℕ) (x : A) → length out ≤ k → out ≡ set out k x
 no-room out k x h = sym (set-out out k x h)
+
+-- a walk that only looks: a store to no memory at all is left out
+pub passed : {A : Type 0} (test : List ℕ → Bool) (value-of : List ℕ → A) (none : A) (line : List ℕ) (fs : List (List ℕ)) (k at : ℕ) (formed : Bool) (value : A) (next : ℕ)
+    → test [] ≡ false → ReadAt test value-of none line at formed value next → formed ≡ true → WalkTo test value-of line fs [] k at [] → WalkTo test value-of line fs [] (k + 1) next []
+passed test value-of none line fs k at formed value next e r t w = took test value-of none line fs [] k at formed value next [] [] e r t (no-room [] k value zero-le) w

@@ -1,5 +1,6 @@
-// The numbers of one field after another, to lent memory. One past its end is left out.
+// The numbers of one field after another: looked at, or read to lent memory. One past its end is left out.
 ghost use mathlib.Core.Path.{_≡_};
+ghost use mathlib.Core.List.{[]};
 ghost use lib.ListN.{set};
 ghost use Rattle.jobs.specs.Numerals.{is-float, float-of, is-count, count-of};
 ghost use Rattle.reading.specs.Reads.{WalkedAt, AllAt};
@@ -73,6 +74,54 @@ pub(crate) fn read_floats<'a>(line: &'a [u8], start: usize, out: &'a mut [f64]) 
         if x.formed {
             put_float(out, k, x.value);
             at = x.next;
+            k += 1;
+        } else {
+            return FloatWalk {
+                sound: false,
+                count: 0,
+            };
+        }
+    }
+    FloatWalk {
+        sound: true,
+        count: k,
+    }
+}
+
+// Whether n fields from a place on are counts. Nothing is stored.
+pub(crate) fn check_counts(line: &[u8], start: usize, n: usize) -> CountWalk
+    ensures { λ r. ⌜ WalkedAt is-count count-of (now (line .entry)) start n [] [] (r .sound) (r .next) ⌝ }
+{
+    let mut at = start;
+    let mut k = 0usize;
+    while k < n {
+        let x = places::count_at(line, at);
+        if x.formed {
+            at = x.next;
+            k += 1;
+        } else {
+            return CountWalk {
+                sound: false,
+                next: at,
+            };
+        }
+    }
+    CountWalk {
+        sound: true,
+        next: at,
+    }
+}
+
+// Whether every field from a place on is a float, and how many there are. Nothing is stored.
+pub(crate) fn check_floats(line: &[u8], start: usize) -> FloatWalk
+    ensures { λ r. ⌜ AllAt is-float float-of (now (line .entry)) start [] [] (r .sound) (r .count) ⌝ }
+{
+    let mut here = start;
+    let mut k = 0usize;
+    while here <= line.len() {
+        let x = places::float_at(line, here);
+        if x.formed {
+            here = x.next;
             k += 1;
         } else {
             return FloatWalk {

@@ -11,16 +11,42 @@ granted-requires : tie.Need-granted-requires
 granted-requires c κs = search needs
 
 slice-reshare-prefix-job : tie.Need-slice-reshare-prefix-job
-slice-reshare-prefix-job c = let m = rings-in _ _ _ _ _ _ (c .before .before .before .before .before .before .parse-job .ensures) _ (c .before .granted .ensures) (c .if1 .taken) (c .before .before .before .before .before .before .before .before .before .before .before .before .before .pre .0) (c .before .before .before .before .before .before .before .before .before .before .before .before .before .pre .1) in search needs
+slice-reshare-prefix-job c =
+    let read = c .before .before .before .before .before .before .parse-job .ensures in
+    let asked = c .before .granted .ensures in
+    let lengths = c .before .before .before .before .before .before .before .before .before .before .before .before .before .pre .0 in
+    let coordinates = c .before .before .before .before .before .before .before .before .before .before .before .before .before .pre .1 in
+    let told = c .if1 .taken in
+    let m = rings-in _ _ _ _ _ _ read _ asked lengths coordinates told in
+    search needs
 
 slice-aggregate-job : tie.Need-slice-aggregate-job
-slice-aggregate-job c = counts-part _ _ (rings-in _ _ _ _ _ _ (c .before .before .before .before .before .before .before .parse-job .ensures) _ (c .before .before .granted .ensures) (c .before .if1 .taken) (c .before .before .before .before .before .before .before .before .before .before .before .before .before .before .pre .0) (c .before .before .before .before .before .before .before .before .before .before .before .before .before .before .pre .1))
+slice-aggregate-job c =
+    let read = c .before .before .before .before .before .before .before .parse-job .ensures in
+    let asked = c .before .before .granted .ensures in
+    let lengths = c .before .before .before .before .before .before .before .before .before .before .before .before .before .before .pre .0 in
+    let coordinates = c .before .before .before .before .before .before .before .before .before .before .before .before .before .before .pre .1 in
+    let told = c .before .if1 .taken in
+    counts-part _ _ (rings-in _ _ _ _ _ _ read _ asked lengths coordinates told)
 
 slice-reshare-prefix-job-2 : tie.Need-slice-reshare-prefix-job-2
-slice-reshare-prefix-job-2 c = let m = count-in _ _ _ _ _ _ (c .before .before .before .before .before .before .before .parse-job .ensures) _ (c .before .before .granted .ensures) (c .before .if1 .taken) (c .before .before .before .before .before .before .before .before .before .before .before .before .before .before .pre .0) (c .before .before .before .before .before .before .before .before .before .before .before .before .before .before .pre .1) in search needs
+slice-reshare-prefix-job-2 c =
+    let read = c .before .before .before .before .before .before .before .parse-job .ensures in
+    let asked = c .before .before .granted .ensures in
+    let lengths = c .before .before .before .before .before .before .before .before .before .before .before .before .before .before .pre .0 in
+    let coordinates = c .before .before .before .before .before .before .before .before .before .before .before .before .before .before .pre .1 in
+    let told = c .before .if1 .taken in
+    let m = count-in _ _ _ _ _ _ read _ asked lengths coordinates told in
+    search needs
 
 slice-aggregate-job-2 : tie.Need-slice-aggregate-job-2
-slice-aggregate-job-2 c = counts-part _ _ (count-in _ _ _ _ _ _ (c .before .before .before .before .before .before .before .before .parse-job .ensures) _ (c .before .before .before .granted .ensures) (c .before .before .if1 .taken) (c .before .before .before .before .before .before .before .before .before .before .before .before .before .before .before .pre .0) (c .before .before .before .before .before .before .before .before .before .before .before .before .before .before .before .pre .1))
+slice-aggregate-job-2 c =
+    let read = c .before .before .before .before .before .before .before .before .parse-job .ensures in
+    let asked = c .before .before .before .granted .ensures in
+    let lengths = c .before .before .before .before .before .before .before .before .before .before .before .before .before .before .before .pre .0 in
+    let coordinates = c .before .before .before .before .before .before .before .before .before .before .before .before .before .before .before .pre .1 in
+    let told = c .before .before .if1 .taken in
+    counts-part _ _ (count-in _ _ _ _ _ _ read _ asked lengths coordinates told)
 
 job-requires : tie.Need-job-requires
 job-requires c κs = search needs
@@ -38,7 +64,16 @@ same-length-3 : tie.Need-same-length-3
 same-length-3 c = search needs
 
 returns : tie.Need-returns
-returns c = (given-answered _ _ _ _ _ _ (c .before .before .before .before .before .before .before .before .before .before .before .before .before .parse-job .ensures) _ (c .before .before .before .before .before .before .before .before .granted .ensures) (c .before .before .before .before .before .before .before .if1 .taken) (c .before .before .before .before .before .before .before .before .before .before .before .before .before .before .before .before .before .before .before .before .pre .0) (c .before .before .before .before .before .before .before .before .before .before .before .before .before .before .before .before .before .before .before .before .pre .1) _ (c .before .before .before .before .job .ensures) _ _ (c .before .before .answer-bytes .ensures .0), given-written _ _ _ _ _ _ (c .before .before .before .before .before .before .before .before .before .before .before .before .before .parse-job .ensures) _ (c .before .before .before .before .before .before .before .before .granted .ensures) (c .before .before .before .before .before .before .before .if1 .taken) (c .before .before .before .before .before .before .before .before .before .before .before .before .before .before .before .before .before .before .before .before .pre .0) (c .before .before .before .before .before .before .before .before .before .before .before .before .before .before .before .before .before .before .before .before .pre .1) _ (c .before .before .before .before .job .ensures) _ _ (c .before .before .answer-bytes .ensures .1))
+returns c =
+    let read = c .before .before .before .before .before .before .before .before .before .before .before .before .before .parse-job .ensures in
+    let asked = c .before .before .before .before .before .before .before .before .granted .ensures in
+    let lengths = c .before .before .before .before .before .before .before .before .before .before .before .before .before .before .before .before .before .before .before .before .pre .0 in
+    let coordinates = c .before .before .before .before .before .before .before .before .before .before .before .before .before .before .before .before .before .before .before .before .pre .1 in
+    let told = c .before .before .before .before .before .before .before .if1 .taken in
+    let worked = c .before .before .before .before .job .ensures in (
+      given-answered _ _ _ _ _ _ read _ asked lengths coordinates told _ worked _ _ (c .before .before .answer-bytes .ensures .0),
+      given-written _ _ _ _ _ _ read _ asked lengths coordinates told _ worked _ _ (c .before .before .answer-bytes .ensures .1),
+    )
 
 number-requires : tie.Need-number-requires
 number-requires c κs = search needs
@@ -56,7 +91,16 @@ same-length-6 : tie.Need-same-length-6
 same-length-6 c = search needs
 
 returns-2 : tie.Need-returns-2
-returns-2 c = (refused-answered _ _ _ _ _ _ (c .before .before .before .before .before .before .before .before .before .before .before .parse-job .ensures) _ (c .before .before .before .before .before .before .granted .ensures) (c .before .before .before .before .before .if1 .left) _ _ _ (c .before .before .before .before .number .ensures) (c .before .before .no-line .ensures .0), refused-written _ _ _ _ _ _ (c .before .before .before .before .before .before .before .before .before .before .before .parse-job .ensures) _ (c .before .before .before .before .before .before .granted .ensures) (c .before .before .before .before .before .if1 .left) _ _ _ (c .before .before .before .before .number .ensures) (c .before .before .no-line .ensures .1))
+returns-2 c =
+    let read = c .before .before .before .before .before .before .before .before .before .before .before .parse-job .ensures in
+    let asked = c .before .before .before .before .before .before .granted .ensures in
+    let lengths = c .before .before .before .before .before .before .before .before .before .before .before .before .before .before .before .before .before .before .pre .0 in
+    let coordinates = c .before .before .before .before .before .before .before .before .before .before .before .before .before .before .before .before .before .before .pre .1 in
+    let told = c .before .before .before .before .before .if1 .left in
+    let numbered = c .before .before .before .before .number .ensures in (
+      refused-answered _ _ _ _ _ _ read _ asked lengths coordinates told _ _ _ numbered (c .before .before .no-line .ensures .0),
+      refused-written _ _ _ _ _ _ read _ asked lengths coordinates told _ _ _ numbered (c .before .before .no-line .ensures .1),
+    )
 
 pub answer-with-spec : {M : Type 1} → statement M
 answer-with-spec =
