@@ -12,12 +12,16 @@ use Rattle.areas.specs.declared.NewArea.{NewArea}
 abbrev pub hectare : Float
 hectare = ofBits binary64 0x40c3880000000000
 
+-- `Area::ZERO`
+abbrev pub zero-area : Area
+zero-area = record { value = zero-float }
+
 -- 2 of a number that is not finite, 14 of one below 0
 unfoldable pub check-area : Float → Refusal
 check-area x = cond (finite x) (cond (lt x zero-float) (Negative x) Granted) (NotFinite 0)
 
 unfoldable pub area-if : Float → Refusal → NewArea
-area-if x r = cond (granted r) (record { refusal = Granted; area = record { value = x } }) (record { refusal = r; area = record { value = zero-float } })
+area-if x r = cond (granted r) (record { refusal = Granted; area = record { value = x } }) (record { refusal = r; area = zero-area })
 
 -- `Area::from_square_metres`; refused, the area beside it is 0
 unfoldable pub from-square-metres : Float → NewArea

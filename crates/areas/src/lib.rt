@@ -15,6 +15,9 @@ pub struct NewArea {
 }
 
 impl Area {
+    // No square metres.
+    pub const ZERO: Area = Area { value: 0.0 };
+
     // The area of this many square metres: 2 where it is not finite, 14 below 0.
     pub fn from_square_metres(value: f64) -> NewArea
         ensures { λ r. ⌜ r ≡ Areas.from-square-metres value ⌝ }

@@ -111,14 +111,10 @@ pub(crate) fn shrink(length: Length, shrinks: bool, soon: f64) -> Gone
 pub(crate) fn corner_of(vertex: Vertex) -> Corner
     ensures { λ r. ⌜ r ≡ Found.corner-of vertex ⌝ }
 {
-    let origin = PlanarPoint {
-        east: 0.0,
-        north: 0.0,
-    };
     match vertex {
         Vertex::NoVertex => Corner {
-            at: origin,
-            velocity: origin,
+            at: PlanarPoint::ORIGIN,
+            velocity: PlanarPoint::ORIGIN,
         },
         Vertex::Moving(p, v) => Corner { at: p, velocity: v },
     }

@@ -34,10 +34,7 @@ impl Edge {
         previous: 0,
         next: 0,
         alive: false,
-        start: PlanarPoint {
-            east: 0.0,
-            north: 0.0,
-        },
+        start: PlanarPoint::ORIGIN,
         since: 0.0,
     };
 

@@ -1,6 +1,6 @@
 -- An outline and an offset that are accepted pass 21 again; an offset accepted at a distance above 0 is simple and keeps clear of its source. Assumes nothing.
 use lib.Ieee
-use Prim.Native.Nat.{ℕ, suc, _+_, _*_, _/_, _%_, _<_}
+use Prim.Native.Nat.{ℕ, _*_, _/_, _%_, _<_}
 use native.Mathlib.Nat.{zero-add}
 use mathlib.Core.Path.{_≡_, refl, sym, _∙_, subst}
 use mathlib.Core.Bool.{Bool, true, false, cond, not, _&&_, false≢true}
@@ -8,7 +8,7 @@ use mathlib.Core.List.{List}
 use native.Mathlib.Omega.{arith}
 use borrow.Author.Tests.{ltb-true, ne-eqb, not-true}
 use lib.Dec.{eqb}
-use lib.ListN.{length, replicate, length-replicate, getD}
+use lib.ListN.{length, replicate, length-replicate}
 use lib.Ieee.{Float, nan, inf, fin, lt, le, eq, up, down}
 use Rattle.plane.specs.declared.PlanarPoint.{PlanarPoint}
 use Rattle.plane.specs.declared.Containment.{Containment}
@@ -26,7 +26,7 @@ use Rattle.offset.specs.declared.Piece.the-variants.{Shrunk, Failed, Who
 use Rattle.offset.specs.declared.Pieces.{Pieces}
 use Rattle.offset.specs.declared.Offset.{Offset}
 use Rattle.math.specs.Number
-use Rattle.math.specs.Number.{finite, zero-float}
+use Rattle.math.specs.Number.{zero-float}
 use Rattle.error.specs.Refusals.{number, values, granted}
 use Rattle.segment.specs.Segments.{segments-meet}
 use Rattle.ring.specs.Ring.{vertex-at, edge-end, stored-at}
@@ -36,20 +36,17 @@ use Rattle.ringcheck.specs.Checks.{check-ring}
 use Rattle.contain.specs.Contains.{ring-contains}
 use Rattle.near.specs.Near.{nearest}
 use Rattle.meet.specs.Meet.{meet-step, meets-edge, rings-meet-step, rings-meet}
-use Rattle.polygon.specs.Outlines.{proper, no-outline, stored-outline, outline-refused, outline-of, outline-if, new-outline, outline, offset-tolerance, finite-step, check-finite}
-use Rattle.loops.proofs.Laws.{rounds-keep}
-use Rattle.front.proofs.Demand.Occ.{by-cases}
+use Rattle.polygon.specs.Outlines.{proper, no-outline, stored-outline, outline-refused, outline-of, outline-if, new-outline, outline, offset-tolerance, check-finite}
 use Rattle.front.proofs.Demand.Choice.{and-left, and-right}
 use Rattle.offset.specs.Clear.{is-inside, is-outside, right-side, every-step, every-vertex}
 use Rattle.offset.specs.Rings.{offset-piece}
 use Rattle.offset.specs.Offsets.{check-distance, pieces-refused, expected, with-piece, visit-piece, pieces-refusal, pieces, clear-of, keeps-clear, offset-clear, offset-found, offset-finished, offset-swept, offset-counted, offset-plain, sweep, offset-from, offset-by, offset}
-use Rattle.offset.specs.Answers.{KeptClear, OffsetAccepted, OutlineProper, OffsetProper}
+use Rattle.offset.specs.Answers.{KeptClear, OffsetAccepted, NewOutlineProper, OutlineProper, OffsetProper}
 use Rattle.offset.proofs.Choices.{either, both, all-pass, none-pass}
 use Rattle.offset.proofs.Visits.{visits-keep}
 use Rattle.offset.proofs.Storing.{stored-new}
 use Rattle.offset.proofs.Passes.{Passed, check-sound, PassedPiece, piece-sound}
-use Rattle.offset.proofs.Good.{Finite, GoodRing, good-ring, good-proper}
-use Rattle.offset.proofs.Walked.{GoodWalk, walk-good}
+use Rattle.offset.proofs.Good.{GoodRing, good-ring, good-proper}
 
 -- ---- what the tests of a ring say of each vertex and each edge
 
@@ -81,35 +78,16 @@ side-is false c q = inside-is c q
 
 -- ---- a ring stored as an outline
 
-pub outline-good : (ps : List Float) (n m : ℕ) (back : Bool) → Passed 128 ps n m back → ((k : ℕ) → k < n → Finite (vertex-at ps k))
+pub outline-good : (ps : List Float) (n m : ℕ) (back : Bool) → Passed 128 ps n m back
     → GoodRing 128 ((stored-outline ps m back) .points) ((stored-outline ps m back) .count)
 unfolding stored-outline
-outline-good ps n m back p f =
+outline-good ps n m back p =
     let out : List Float = replicate 256 zero-float in
-    good-ring 128 ps n m back (stored ps m back 0 out) p f
+    good-ring 128 ps n m back (stored ps m back 0 out) p
     (λ k l. subst (λ (i : ℕ). vertex-at (stored ps m back 0 out) i ≡ stored-at ps m back k) (zero-add k)
     (stored-new ps m back 0 out (omega (arith, length-replicate 256 zero-float, p .fits)) k l))
 
 -- ---- an outline from numbers
-
-record AllFinite (ps : List Float) (n : ℕ) (r : Refusal) : Type 0 where
-  all : granted r ≡ true → (i : ℕ) → i < n → finite (getD ps i nan) ≡ true
-
-finite-all : (ps : List Float) → AllFinite ps (length ps) (check-finite ps)
-unfolding check-finite finite-step granted number values
-finite-all ps =
-    rounds-keep (finite-step ps) (AllFinite ps) Granted (record { all = λ q i l. absurd (omega arith) })
-    (λ k r h. either (AllFinite ps (suc k)) (granted r)
-    (λ g. either (AllFinite ps (suc k)) (finite (getD ps k nan))
-    (λ f. record { all = λ q i l. by-cases i k (λ e. rw e f) (λ e. h .all g i (omega arith)) })
-    (λ f. record { all = λ q. absurd (false≢true q) }))
-    (λ g. record { all = λ q. absurd (false≢true (sym g ∙ q)) }))
-    (length ps)
-
--- the vertices of numbers that pass question 2
-pub finite-vertices : (ps : List Float) → granted (check-finite ps) ≡ true → (k : ℕ) → 2 * k + 1 < length ps → Finite (vertex-at ps k)
-unfolding vertex-at
-finite-vertices ps q k l = record { east = finite-all ps .all q (2 * k) (omega arith); north = finite-all ps .all q (2 * k + 1) l }
 
 pub record GoodNew (a : NewOutline) : Type 0 where
   pub good : granted (a .refusal) ≡ true → GoodRing 128 (a .shape .points) (a .shape .count)
@@ -118,17 +96,22 @@ refused-good : (r : Refusal) → granted r ≡ false → GoodNew (outline-refuse
 unfolding outline-refused
 refused-good r h = record { good = λ q. absurd (false≢true (sym h ∙ q)) }
 
-pub outline-sound : (ps : List Float) → GoodNew (outline ps)
-unfolding outline outline-if new-outline outline-of granted number values
-outline-sound ps =
-    let n : ℕ = length ps / 2 in
+new-outline-sound : (ps : List Float) (n : ℕ) → GoodNew (new-outline ps n)
+unfolding new-outline outline-of granted number values
+new-outline-sound ps n =
     let c : Checked = check-ring 128 0 ps n in
+    either GoodNew (granted (c .refusal))
+    (λ h. record { good = λ q. outline-good ps n (c .count) (c .back) (check-sound 128 0 ps n h) })
+    (λ h. refused-good (c .refusal) h)
+
+pub new-outline-proper : NewOutlineProper
+new-outline-proper ps n q = good-proper 128 ((new-outline ps n) .shape .points) ((new-outline ps n) .shape .count) (new-outline-sound ps n .good q)
+
+pub outline-sound : (ps : List Float) → GoodNew (outline ps)
+unfolding outline outline-if granted number values
+outline-sound ps =
     both GoodNew (eqb (length ps % 2) 0)
-    (either GoodNew (granted (check-finite ps))
-    (λ f. either GoodNew (granted (c .refusal))
-    (λ h. record { good = λ q. outline-good ps n (c .count) (c .back) (check-sound 128 0 ps n h) (λ k l. finite-vertices ps f k (omega arith)) })
-    (λ h. refused-good (c .refusal) h))
-    (λ f. refused-good (check-finite ps) f))
+    (either GoodNew (granted (check-finite ps)) (λ f. new-outline-sound ps (length ps / 2)) (λ f. refused-good (check-finite ps) f))
     (refused-good Odd refl)
 
 pub outline-proper : OutlineProper
@@ -143,19 +126,19 @@ refused-pieces : (r : Refusal) → GoodPieces (pieces-refused r)
 unfolding pieces-refused
 refused-pieces r = record { good = λ q. absurd (false≢true q) }
 
-with-good : (outward : Bool) (d : Float) (w : Walk) (s : Pieces) (p : Piece) → GoodWalk w → PassedPiece 128 w p → GoodPieces s → GoodPieces (with-piece outward d w s p)
+with-good : (outward : Bool) (d : Float) (w : Walk) (s : Pieces) (p : Piece) → PassedPiece 128 w p → GoodPieces s → GoodPieces (with-piece outward d w s p)
 unfolding with-piece
-with-good outward d w s Shrunk g z h = h
-with-good outward d w s (Failed r) g z h = refused-pieces r
-with-good outward d w s (Whole n back) g z h =
+with-good outward d w s Shrunk z h = h
+with-good outward d w s (Failed r) z h = refused-pieces r
+with-good outward d w s (Whole n back) z h =
     both GoodPieces (expected outward (signed-area (w .points) (w .count)) && not (s .found))
-    (record { good = λ q. outline-good (w .points) (w .count) n back z (g .all) }) (refused-pieces (Splits d))
+    (record { good = λ q. outline-good (w .points) (w .count) n back z }) (refused-pieces (Splits d))
 
 pieces-good : (f : List Edge) (origin : PlanarPoint) (outward : Bool) (d tolerance : Float) → GoodPieces (pieces f origin outward d tolerance)
 unfolding pieces visit-piece
 pieces-good f origin outward d tolerance =
-    visits-keep GoodPieces pieces-refusal (visit-piece outward d tolerance) f d origin GoodWalk (walk-good f d origin)
-    (λ place w g s h. with-good outward d w s (offset-piece 128 place d tolerance w) g (piece-sound 128 place d tolerance w) h)
+    visits-keep GoodPieces pieces-refusal (visit-piece outward d tolerance) f d origin (λ w. Unit {0}) (λ first seen. tt)
+    (λ place w g s h. with-good outward d w s (offset-piece 128 place d tolerance w) (piece-sound 128 place d tolerance w) h)
     (record { refusal = Granted; found = false; shape = no-outline }) (record { good = λ q. absurd (false≢true q) })
 
 -- the answer is accepted only where its shape is good and keeps clear

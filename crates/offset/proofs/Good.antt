@@ -1,18 +1,17 @@
--- A ring that passes 4 to 9 with finite numbers passes 21 and `check_simple` as it is stored. Assumes nothing.
-use lib.Ieee
-use Prim.Native.Nat.{ℕ, _+_, _-_, _*_, _/_, _%_, _^_, _≤_, _<_}
+-- A ring that passes 4 to 9 passes 21 and `check_simple` as it is stored. Assumes nothing.
+use Prim.Native.Nat.{ℕ, _+_, _-_, _*_, _/_, _%_, _≤_, _<_}
 use mathlib.Core.Path.{_≡_, refl, ap, _∙_, subst}
-use mathlib.Core.Bool.{Bool, true, false, cond, _&&_, _||_, false≢true}
+use mathlib.Core.Bool.{Bool, true, false, cond, _&&_}
 use mathlib.Core.List.{List}
 use native.Mathlib.Omega.{arith}
-use borrow.Author.Tests.{ltb-true, ltb-false, le-leb, eq-eqb}
-use lib.Dec.{ltb, eqb}
+use borrow.Author.Tests.{not-false, ltb-true, le-leb}
+use lib.Dec.{ltb}
 use lib.ListN.{getD}
-use lib.Ieee.{Float, nan, inf, fin, lt, le, eq, up, down}
+use lib.Ieee.{Float, nan, le}
 use Rattle.plane.specs.declared.PlanarPoint.{PlanarPoint}
 use Rattle.simple.specs.declared.Crossing.{Crossing}
 use Rattle.simple.specs.declared.Crossing.the-variants.{Simple}
-use Rattle.math.specs.Number.{finite, abs}
+use Rattle.math.specs.Number.{abs}
 use Rattle.ring.specs.Ring.{vertex-at, following, source, stored-at}
 use Rattle.ring.proofs.Vertices.{following-lt}
 use Rattle.simple.specs.Simple.{crossing, pair-step, edge-step, check-simple}
@@ -47,25 +46,9 @@ module _ (ps qs : List Float) (n : ℕ) (back : Bool) (same : (k : ℕ) → k < 
 
 -- ---- question 21
 
-pub record Finite (v : PlanarPoint) : Type 0 where
-  pub east : finite (v .east) ≡ true
-  pub north : finite (v .north) ≡ true
-
-within-le : (x : Float) → finite x ≡ true → beyond x ≡ false → le (abs x) max-coordinate ≡ true
-unfolding beyond finite le lt eq abs lib.Ieee.ofBits
-within-le nan f q = absurd (false≢true f)
-within-le (inf s) f q = absurd (false≢true f)
-within-le (fin s m e) f q = go (ltb a b) refl
-  where
-    a : ℕ
-    a = m * up e * 1
-
-    b : ℕ
-    b = 1953125 * 2 ^ 9 * down e
-
-    go : (x : Bool) → ltb a b ≡ x → (x || (eqb a b && true)) ≡ true
-    go true p = refl
-    go false p = rw (eq-eqb a b (omega (arith, ltb-false a b p, ltb-false b a q))) refl
+within-le : (x : Float) → beyond x ≡ false → le (abs x) max-coordinate ≡ true
+unfolding beyond
+within-le x q = not-false (le (abs x) max-coordinate) q
 
 -- numbers go two by two
 by-pairs : (P : ℕ → Type 0) (n : ℕ) → ((k : ℕ) → k < n → P (2 * k) × P (2 * k + 1)) → (i : ℕ) → i < 2 * n → P i
@@ -88,7 +71,6 @@ proper-same room qs rs n same q =
 pub record GoodRing (room : ℕ) (qs : List Float) (n : ℕ) : Type 0 where
   pub three : 3 ≤ n
   pub fits : n ≤ room
-  pub finite : (k : ℕ) → k < n → Finite (vertex-at qs k)
   pub within : (k : ℕ) → k < n → Within (vertex-at qs k)
   pub simple : check-simple qs n false ≡ Simple
 
@@ -97,7 +79,7 @@ module _ (room : ℕ) (qs : List Float) (n : ℕ) (g : GoodRing room qs n) where
   unfolding vertex-at
   number-near =
       by-pairs (λ (i : ℕ). le (abs (getD qs i nan)) max-coordinate ≡ true) n
-      (λ k l. (within-le (getD qs (2 * k) nan) (g .finite k l .east) (g .within k l .east), within-le (getD qs (2 * k + 1) nan) (g .finite k l .north) (g .within k l .north)))
+      (λ k l. (within-le (getD qs (2 * k) nan) (g .within k l .east), within-le (getD qs (2 * k + 1) nan) (g .within k l .north)))
 
   pub good-proper : proper room qs n ≡ true
   unfolding proper in-range in-range-step
@@ -110,7 +92,6 @@ module _ (room : ℕ) (qs : List Float) (n : ℕ) (g : GoodRing room qs n) where
   good-same rs same = record {
     three = g .three;
     fits = g .fits;
-    finite = λ k l. rw (same k l) (g .finite k l);
     within = λ k l. rw (same k l) (g .within k l);
     simple = simple-same qs rs n false same ∙ g .simple;
   }
@@ -124,13 +105,12 @@ source-less n true k l = go (ltb 0 k) refl
     go false e = l
 source-less n false k l = l
 
-pub good-ring : (room : ℕ) (ps : List Float) (n m : ℕ) (back : Bool) (qs : List Float) → Passed room ps n m back → ((k : ℕ) → k < n → Finite (vertex-at ps k))
+pub good-ring : (room : ℕ) (ps : List Float) (n m : ℕ) (back : Bool) (qs : List Float) → Passed room ps n m back
     → ((k : ℕ) → k < m → vertex-at qs k ≡ stored-at ps m back k) → GoodRing room qs m
 unfolding stored-at
-good-ring room ps n m back qs p f same = record {
+good-ring room ps n m back qs p same = record {
   three = p .three;
   fits = p .fits;
-  finite = λ k l. rw (same k l) (f (source m back k) (omega (arith, source-less m back k l, p .kept)));
   within = λ k l. rw (same k l) (p .within (source m back k) (source-less m back k l));
   simple = simple-same ps qs m back same ∙ p .simple;
 }

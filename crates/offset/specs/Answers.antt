@@ -21,7 +21,7 @@ use Rattle.measures.specs.Measures.{extent}
 use Rattle.simple.specs.Simple.{check-simple}
 use Rattle.contain.specs.Contains.{ring-contains}
 use Rattle.near.specs.Near.{nearest}
-use Rattle.polygon.specs.Outlines.{outline, proper, no-outline, relative-tolerance}
+use Rattle.polygon.specs.Outlines.{new-outline, outline, proper, no-outline, relative-tolerance}
 use Rattle.front.specs.declared.Loaded.{Loaded}
 use Rattle.front.specs.Demand.{tally, events, givens, run}
 use Rattle.lent.specs.Writes.{outline-write, written-outline}
@@ -127,6 +127,12 @@ OffsetAccepted =
     KeptClear o outward d ((offset o outward d) .shape)
 
 -- ---- what is accepted passes 21 again
+
+-- 4 to 9 alone, of any numbers and any count
+abbrev pub NewOutlineProper : Type 0
+NewOutlineProper =
+    (ps : List Float) (n : ℕ) → granted ((new-outline ps n) .refusal) ≡ true →
+    proper 128 ((new-outline ps n) .shape .points) ((new-outline ps n) .shape .count) ≡ true
 
 abbrev pub OutlineProper : Type 0
 OutlineProper = (ps : List Float) → granted ((outline ps) .refusal) ≡ true → proper 128 ((outline ps) .shape .points) ((outline ps) .shape .count) ≡ true

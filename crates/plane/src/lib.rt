@@ -67,6 +67,12 @@ pub fn same(a: PlanarPoint, b: PlanarPoint) -> bool
 }
 
 impl PlanarPoint {
+    // The point (0, 0).
+    pub const ORIGIN: PlanarPoint = PlanarPoint {
+        east: 0.0,
+        north: 0.0,
+    };
+
     // Question 2 of a point: east first.
     pub fn check(self) -> Refusal
         ensures { λ r. ⌜ r ≡ Points.check-point self ⌝ }
@@ -87,14 +93,10 @@ impl PlanarPoint {
             east: east,
             north: north,
         };
-        let none = PlanarPoint {
-            east: 0.0,
-            north: 0.0,
-        };
         let refusal = given.check();
         NewPoint {
             refusal: refusal,
-            point: choose(refusal.granted(), given, none),
+            point: choose(refusal.granted(), given, PlanarPoint::ORIGIN),
         }
     }
 

@@ -73,10 +73,7 @@ pub fn nearest(ps: &[f64], n: usize, p: PlanarPoint) -> Neared
         Neared {
             refusal: r,
             distance: 0.0,
-            point: PlanarPoint {
-                east: 0.0,
-                north: 0.0,
-            },
+            point: PlanarPoint::ORIGIN,
         }
     }
 }

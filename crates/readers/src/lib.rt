@@ -37,9 +37,5 @@ pub fn edge(ps: &[f64], n: usize, k: usize) -> Edged
 pub(crate) fn within(test: bool, v: PlanarPoint) -> PlanarPoint
     ensures { λ r. ⌜ r ≡ cond test v Points.origin ⌝ }
 {
-    let none = PlanarPoint {
-        east: 0.0,
-        north: 0.0,
-    };
-    plane::choose(test, v, none)
+    plane::choose(test, v, PlanarPoint::ORIGIN)
 }

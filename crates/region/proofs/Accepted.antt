@@ -36,7 +36,6 @@ use Rattle.offset.proofs.Choices.{either, both, all-pass, none-pass}
 use Rattle.offset.proofs.Visits.{visits-keep}
 use Rattle.offset.proofs.Passes.{Passed, PassedPiece, piece-sound}
 use Rattle.offset.proofs.Good.{GoodRing, good-ring, good-proper}
-use Rattle.offset.proofs.Walked.{GoodWalk, walk-good}
 use Rattle.offset.proofs.Accepted.{every-passes, none-meet, inside-is, outline-good, above-zero}
 use Rattle.region.specs.Regions.{no-region, ring-points, ring-count, with-outer, store-hole, region-contains, distance-to-boundary, region-extent}
 use Rattle.region.specs.Checks.{check-region, proper-region, region-refused}
@@ -55,13 +54,13 @@ refused-pieces : (u : Refusal) → GoodPieces (region-pieces-refused u)
 unfolding region-pieces-refused no-region
 refused-pieces u = record { outer = λ q. absurd (false≢true q); few = omega arith; holes = no-holes (GoodRing 32) }
 
-module _ (d : Float) (w : Walk) (s : RegionPieces) (g : GoodWalk w) (h : GoodPieces s) where
+module _ (d : Float) (w : Walk) (s : RegionPieces) (h : GoodPieces s) where
   outer-good : (n : ℕ) (back : Bool) → Passed 128 (w .points) (w .count) n back → GoodPieces (with-outer-piece d w s n back)
   unfolding with-outer-piece with-outer
   outer-good n back z =
       both GoodPieces (s .found) (refused-pieces (Splits d))
       (record {
-        outer = λ q. outline-good (w .points) (w .count) n back z (g .all);
+        outer = λ q. outline-good (w .points) (w .count) n back z;
         few = h .few;
         holes = outer-holes (GoodRing 32) (s .shape) (stored-outline (w .points) n back) (h .holes);
       })
@@ -73,7 +72,7 @@ module _ (d : Float) (w : Walk) (s : RegionPieces) (g : GoodWalk w) (h : GoodPie
       (λ l. record {
         outer = h .outer;
         few = omega (arith, ltb-true (s .shape .holes) 8 l);
-        holes = store-holes (GoodRing 32) good-of-holes (s .shape) (w .points) n back (z .fits) (λ qs e. good-ring 32 (w .points) (w .count) n back qs z (g .all) e) (h .holes) (ltb-true (s .shape .holes) 8 l);
+        holes = store-holes (GoodRing 32) good-of-holes (s .shape) (w .points) n back (z .fits) (λ qs e. good-ring 32 (w .points) (w .count) n back qs z e) (h .holes) (ltb-true (s .shape .holes) 8 l);
       })
       (λ l. refused-pieces (ManyPieces 9))
 
@@ -87,9 +86,9 @@ module _ (d : Float) (w : Walk) (s : RegionPieces) (g : GoodWalk w) (h : GoodPie
 pieces-good : (f : List Edge) (origin : PlanarPoint) (d tolerance : Float) → GoodPieces (region-pieces f origin d tolerance)
 unfolding region-pieces visit-region-piece no-region
 pieces-good f origin d tolerance =
-    visits-keep GoodPieces region-pieces-refusal (visit-region-piece d tolerance) f d origin GoodWalk (walk-good f d origin)
+    visits-keep GoodPieces region-pieces-refusal (visit-region-piece d tolerance) f d origin (λ w. Unit {0}) (λ first seen. tt)
     (λ place w g s h.
-    with-good d w s g h (offset-piece (cond (is-outer w) 128 32) place d tolerance w) (piece-sound (cond (is-outer w) 128 32) place d tolerance w))
+    with-good d w s h (offset-piece (cond (is-outer w) 128 32) place d tolerance w) (piece-sound (cond (is-outer w) 128 32) place d tolerance w))
     (record { refusal = Granted; found = false; shape = no-region }) (record { outer = λ q. absurd (false≢true q); few = omega arith; holes = no-holes (GoodRing 32) })
 
 -- ---- an inset that keeps clear

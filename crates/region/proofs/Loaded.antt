@@ -1,11 +1,10 @@
--- A region from numbers or from outlines that is accepted passes 21. Assumes nothing.
-use Prim.Native.Nat.{ℕ, suc, _+_, _-_, _*_, _%_, _≤_, _<_}
-use native.Mathlib.Numerals.{add-one}
-use mathlib.Core.Path.{_≡_, refl, sym, ap, _∙_, subst}
-use mathlib.Core.Bool.{Bool, true, false, _&&_, false≢true}
+-- A region from numbers or from outlines that is accepted passes 21; rings that are refused are not there. Assumes nothing.
+use Prim.Native.Nat.{ℕ, _+_, _-_, _*_, _%_, _≤_, _<_}
+use mathlib.Core.Path.{_≡_, refl, sym, _∙_, subst}
+use mathlib.Core.Bool.{Bool, true, false, _&&_, false≢true, true≢false}
 use mathlib.Core.List.{List}
 use native.Mathlib.Omega.{arith}
-use borrow.Author.Tests.{leb-true, ltb-true, eqb-true}
+use borrow.Author.Tests.{leb-true}
 use lib.Dec.{leb, ltb, eqb}
 use lib.ListN.{getD, drop, length}
 use lib.Ieee.{Float}
@@ -23,14 +22,14 @@ use Rattle.ringcheck.specs.Checks.{check-ring}
 use Rattle.polygon.specs.Outlines.{proper, stored-outline, check-finite}
 use Rattle.front.proofs.Demand.Shapes.{proper-is}
 use Rattle.front.proofs.Demand.Choice.{and-left, and-right}
-use Rattle.offset.proofs.Choices.{either, both, all-pass, sums-to}
+use Rattle.offset.proofs.Choices.{either, both, all-pass}
 use Rattle.offset.proofs.Passes.{Passed, check-sound}
-use Rattle.offset.proofs.Good.{Finite, good-ring, good-proper, proper-same}
-use Rattle.offset.proofs.Accepted.{outline-good, finite-vertices}
+use Rattle.offset.proofs.Good.{good-ring, good-proper, proper-same}
+use Rattle.offset.proofs.Accepted.{outline-good}
 use Rattle.region.specs.Regions.{no-region, with-outer, store-hole, count-hole, with-hole}
-use Rattle.region.specs.Checks.{check-region, region-refused, region-if, rings-refused, hole-loaded, hole-load-step, outer-loaded, load-rings, region-loaded, total-step, total, region-finite, region, proper-region, given-hole, proper-given-step, proper-given, given-step, given-rings, region-given, without-holes}
-use Rattle.region.specs.Answers.{ProperNewRegion, RegionProper}
-use Rattle.region.proofs.Holes.{GoodHoles, ProperHole, proper-of-holes, hole-vertex, no-holes, outer-holes, with-holes, region-proper}
+use Rattle.region.specs.Checks.{check-region, region-refused, region-if, rings-refused, hole-loaded, hole-load-step, outer-loaded, load-rings, region-loaded, total, region-finite, region, proper-region, given-hole, proper-given-step, proper-given, given-step, given-rings, region-given, without-holes}
+use Rattle.region.specs.Answers.{LoadEmpty, ProperNewRegion, RegionProper}
+use Rattle.region.proofs.Holes.{GoodHoles, ProperHole, proper-of-holes, no-holes, outer-holes, with-holes, region-proper}
 
 -- ---- a region that passes 10 has eight holes at most
 
@@ -74,85 +73,94 @@ with-sound q ps n back l new h = record {
   holes = with-holes ProperHole proper-of-holes q ps n back l new (h .holes);
 }
 
--- ---- from numbers: the lengths of the first k rings
+-- ---- from numbers
 
-module _ (lengths : List ℕ) (ps : List Float) (all : granted (check-finite ps) ≡ true) (some : 0 < length lengths) (enough : 2 * total lengths ≡ length ps) where
-  sum-less : (k : ℕ) → k ≤ length lengths → 2 * rounds (total-step lengths) k 0 ≤ length ps
-  unfolding total total-step
-  sum-less k l = omega (arith, enough, sums-to (total-step lengths) (λ i. getD lengths i 0) (λ i s. refl) k (length lengths) l)
+module _ (lengths : List ℕ) (ps : List Float) where
+  -- what is loaded so far
+  record Loading (s : RegionLoad) : Type 0 where
+    sound : granted (s .refusal) ≡ true → Sound (s .shape)
 
-  -- after the outer ring and k holes
-  record Loading (k : ℕ) (s : RegionLoad) : Type 0 where
-    start : granted (s .refusal) ≡ true → s .start ≡ rounds (total-step lengths) (suc k) 0
-    sound : suc k ≤ length lengths → granted (s .refusal) ≡ true → Sound (s .shape)
-
-  outer-loading : Loading 0 (outer-loaded ps (getD lengths 0 0) (check-ring 128 0 ps (getD lengths 0 0)))
-  unfolding outer-loaded rounds total-step stored-outline
+  outer-loading : Loading (outer-loaded ps (getD lengths 0 0) (check-ring 128 0 ps (getD lengths 0 0)))
+  unfolding outer-loaded stored-outline
   outer-loading =
       let n : ℕ = getD lengths 0 0 in
       let c : Checked = check-ring 128 0 ps n in
-      either (Loading 0) (granted (c .refusal))
+      either Loading (granted (c .refusal))
       (λ h. record {
-        start = λ q. omega arith;
-        sound = λ l q. alone-sound (stored-outline ps (c .count) (c .back))
-            (good-proper 128 ((stored-outline ps (c .count) (c .back)) .points) (c .count)
-            (outline-good ps n (c .count) (c .back) (check-sound 128 0 ps n h) (λ k z. finite-vertices ps all k (omega (arith, sum-less 1 l)))));
+        sound = λ q. alone-sound (stored-outline ps (c .count) (c .back))
+            (good-proper 128 ((stored-outline ps (c .count) (c .back)) .points) (c .count) (outline-good ps n (c .count) (c .back) (check-sound 128 0 ps n h)));
       })
-      (λ h. record { start = λ q. absurd (false≢true (sym h ∙ q)); sound = λ l q. absurd (false≢true (sym h ∙ q)) })
+      (λ h. record { sound = λ q. absurd (false≢true (sym h ∙ q)) })
 
-  module _ (k : ℕ) (s : RegionLoad) (g : granted (s .refusal) ≡ true) (h : Loading k s) where
+  module _ (k : ℕ) (s : RegionLoad) (g : granted (s .refusal) ≡ true) (h : Loading s) where
     abbrev qs : List Float
     qs = drop (2 * s .start) ps
 
     abbrev n : ℕ
     n = getD lengths (k + 1) 0
 
-    ring-finite : suc (suc k) ≤ length lengths → (j : ℕ) → j < n → Finite (vertex-at qs j)
-    unfolding rounds total-step
-    ring-finite l j z =
-        rw (hole-vertex ps (2 * s .start) (s .start) j refl)
-        (finite-vertices ps all (s .start + j) (omega (arith, h .start g, sum-less (suc (suc k)) l, ap (λ (i : ℕ). getD lengths i 0) (add-one k))))
-
-    hole-loading : Loading (suc k) (hole-loaded s qs n (check-ring 32 (k + 1) qs n))
-    unfolding hole-loaded rings-refused rounds total-step
+    hole-loading : Loading (hole-loaded s qs n (check-ring 32 (k + 1) qs n))
+    unfolding hole-loaded rings-refused
     hole-loading =
         let c : Checked = check-ring 32 (k + 1) qs n in
-        either (Loading (suc k)) (granted (c .refusal))
+        either Loading (granted (c .refusal))
         (λ e. record {
-          start = λ q. omega (arith, h .start g, ap (λ (i : ℕ). getD lengths i 0) (add-one k));
-          sound = λ l q.
+          sound = λ q.
               let p : Passed 32 qs n (c .count) (c .back) = check-sound 32 (k + 1) qs n e in
               with-sound (s .shape) qs (c .count) (c .back) (p .fits)
-              (λ rs same. good-proper 32 rs (c .count) (good-ring 32 qs n (c .count) (c .back) rs p (ring-finite l) same))
-              (h .sound (omega arith) g);
+              (λ rs same. good-proper 32 rs (c .count) (good-ring 32 qs n (c .count) (c .back) rs p same))
+              (h .sound g);
         })
-        (λ e. record { start = λ q. absurd (false≢true (sym e ∙ q)); sound = λ l q. absurd (false≢true (sym e ∙ q)) })
+        (λ e. record { sound = λ q. absurd (false≢true (sym e ∙ q)) })
 
-  step-loading : (k : ℕ) (s : RegionLoad) → Loading k s → Loading (suc k) (hole-load-step lengths ps k s)
+  step-loading : (k : ℕ) (s : RegionLoad) → Loading s → Loading (hole-load-step lengths ps k s)
   unfolding hole-load-step
   step-loading k s h =
-      either (Loading (suc k)) (granted (s .refusal)) (λ g. hole-loading k s g h)
-      (λ g. record { start = λ q. absurd (false≢true (sym g ∙ q)); sound = λ l q. absurd (false≢true (sym g ∙ q)) })
+      either Loading (granted (s .refusal)) (λ g. hole-loading k s g h) (λ g. record { sound = λ q. absurd (false≢true (sym g ∙ q)) })
 
   rings-sound : granted ((load-rings lengths ps) .refusal) ≡ true → Sound ((load-rings lengths ps) .shape)
   unfolding load-rings
   rings-sound q =
-      rounds-keep (hole-load-step lengths ps) Loading (outer-loaded ps (getD lengths 0 0) (check-ring 128 0 ps (getD lengths 0 0))) outer-loading step-loading (length lengths - 1)
-      .sound (omega arith) q
+      rounds-keep (hole-load-step lengths ps) (λ k s. Loading s) (outer-loaded ps (getD lengths 0 0) (check-ring 128 0 ps (getD lengths 0 0))) outer-loading step-loading
+      (length lengths - 1) .sound q
+
+  -- beside a refusal nothing is loaded
+  record Emptied (s : RegionLoad) : Type 0 where
+    empty : granted (s .refusal) ≡ false → s .shape ≡ no-region
+
+  hole-emptied : (s : RegionLoad) (qs : List Float) (n : ℕ) (c : Checked) → Emptied (hole-loaded s qs n c)
+  unfolding hole-loaded rings-refused granted number values
+  hole-emptied s qs n c = either Emptied (granted (c .refusal)) (λ e. record { empty = λ q. absurd (true≢false q) }) (λ e. record { empty = λ q. refl })
+
+  pub load-empty : granted ((load-rings lengths ps) .refusal) ≡ false → (load-rings lengths ps) .shape ≡ no-region
+  unfolding load-rings outer-loaded hole-load-step granted number values
+  load-empty q =
+      let n : ℕ = getD lengths 0 0 in
+      let c : Checked = check-ring 128 0 ps n in
+      rounds-keep (hole-load-step lengths ps) (λ k s. Emptied s) (outer-loaded ps n c)
+      (either Emptied (granted (c .refusal)) (λ e. record { empty = λ q. absurd (true≢false q) }) (λ e. record { empty = λ q. refl }))
+      (λ k s h. either Emptied (granted (s .refusal))
+      (λ g. hole-emptied s (drop (2 * s .start) ps) (getD lengths (k + 1) 0) (check-ring 32 (k + 1) (drop (2 * s .start) ps) (getD lengths (k + 1) 0)))
+      (λ g. h))
+      (length lengths - 1) .empty q
+
+pub rings-empty : LoadEmpty
+rings-empty lengths ps = load-empty lengths ps
+
+rings-proper : (lengths : List ℕ) (ps : List Float) → ProperNewRegion (region-loaded (load-rings lengths ps))
+unfolding region-loaded
+rings-proper lengths ps =
+    let s : RegionLoad = load-rings lengths ps in
+    either ProperNewRegion (granted (s .refusal))
+    (λ g. if-proper (s .shape) (sound-proper (s .shape) (rings-sound lengths ps g)))
+    (λ g. refused-proper (s .refusal) g)
 
 loaded-proper : (lengths : List ℕ) (ps : List Float) → ProperNewRegion (region lengths ps)
-unfolding region region-finite region-loaded granted number values
+unfolding region region-finite granted number values
 loaded-proper lengths ps =
-    let s : RegionLoad = load-rings lengths ps in
-    let a : Bool = ltb 0 (length lengths) in
-    let b : Bool = eqb (2 * total lengths) (length ps) in
     both ProperNewRegion (eqb (length ps % 2) 0)
     (either ProperNewRegion (granted (check-finite ps))
-    (λ f. either ProperNewRegion (a && b)
-    (λ t. either ProperNewRegion (granted (s .refusal))
-    (λ g. if-proper (s .shape) (sound-proper (s .shape) (rings-sound lengths ps f (ltb-true 0 (length lengths) (and-left a b t)) (eqb-true (2 * total lengths) (length ps) (and-right a b t)) g)))
-    (λ g. refused-proper (s .refusal) g))
-    (λ t. refused-proper Lengths refl))
+    (λ f. both ProperNewRegion (ltb 0 (length lengths) && eqb (2 * total lengths) (length ps)) (rings-proper lengths ps) (refused-proper Lengths refl))
     (λ f. refused-proper (check-finite ps) f))
     (refused-proper Odd refl)
 
@@ -183,4 +191,4 @@ alone-proper o =
     either ProperNewRegion (proper 128 (o .points) (o .count)) (λ q. record { proper = λ t. sound-proper (with-outer no-region o) (alone-sound o q) (omega arith) }) (λ q. refused-proper Shape refl)
 
 pub region-again : RegionProper
-region-again = record { loaded = loaded-proper; given = given-proper; alone = alone-proper }
+region-again = record { loaded = loaded-proper; rings = rings-proper; given = given-proper; alone = alone-proper }

@@ -24,7 +24,7 @@ use Rattle.polygon.specs.Outlines.{relative-tolerance}
 use Rattle.offset.specs.Offsets.{check-distance}
 use Rattle.offset.specs.Answers.{AnswerDemand, Counted, Accounts, EmptyOutline}
 use Rattle.region.specs.Regions.{no-region, ring-points, ring-count, region-contains, distance-to-boundary, region-extent}
-use Rattle.region.specs.Checks.{check-region, proper-region, region, region-given, without-holes}
+use Rattle.region.specs.Checks.{check-region, load-rings, region-loaded, proper-region, region, region-given, without-holes}
 use Rattle.region.specs.Insets.{region-plain, load-region, region-inset}
 use Rattle.region.specs.Queries.{before, needed, region-write, written-region, inset-write, written-inset}
 use Rattle.region.specs.Demand.{edges-of, region-load}
@@ -66,6 +66,11 @@ pub record RegionEmpty : Type 0 where
   pub loaded : (lengths : List ℕ) (ps : List Float) → EmptyNewRegion (region lengths ps)
   pub given : (o : Outline) (hs : List Outline) → EmptyNewRegion (region-given o hs)
   pub alone : (o : Outline) → EmptyNewRegion (without-holes o)
+
+-- of rings that are loaded: 4 to 9 alone, of any numbers and any lengths
+abbrev pub LoadEmpty : Type 0
+LoadEmpty =
+    (lengths : List ℕ) (ps : List Float) → granted ((load-rings lengths ps) .refusal) ≡ false → (load-rings lengths ps) .shape ≡ no-region
 
 abbrev pub InsetEmpty : Type 0
 InsetEmpty = (r : Region) (d : Float) → granted ((region-inset r d) .refusal) ≡ false → EmptyRegion ((region-inset r d) .shape)
@@ -114,9 +119,10 @@ InsetProper = (r : Region) (d : Float) → granted ((region-inset r d) .refusal)
 pub record ProperNewRegion (a : NewRegion) : Type 0 where
   pub proper : granted (a .refusal) ≡ true → proper-region (a .shape) ≡ true
 
--- a region from numbers, one from outlines, and one without holes
+-- a region from numbers; 4 to 12 alone, of any numbers and any lengths; a region from outlines, and one without holes
 pub record RegionProper : Type 0 where
   pub loaded : (lengths : List ℕ) (ps : List Float) → ProperNewRegion (region lengths ps)
+  pub rings : (lengths : List ℕ) (ps : List Float) → ProperNewRegion (region-loaded (load-rings lengths ps))
   pub given : (o : Outline) (hs : List Outline) → ProperNewRegion (region-given o hs)
   pub alone : (o : Outline) → ProperNewRegion (without-holes o)
 

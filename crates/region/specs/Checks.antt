@@ -75,8 +75,9 @@ region-if r s = cond (granted s) (record { refusal = Granted; shape = r }) (regi
 
 -- ---- a region from numbers: questions 1 to 12. Ring k has `getD lengths k` vertices, one ring after the other; every ring passes 4 to 9 before 10 is asked
 
+-- the shape beside a refused ring is empty
 unfoldable pub rings-refused : RegionLoad → Refusal → RegionLoad
-rings-refused s r = record { refusal = r; shape = s .shape; start = s .start }
+rings-refused s r = record { refusal = r; shape = no-region; start = s .start }
 
 unfoldable pub hole-loaded : RegionLoad → List Float → ℕ → Checked → RegionLoad
 hole-loaded s ps n c =

@@ -79,10 +79,7 @@ pub fn closest_boundary_point<'a>(
     } else {
         Footed {
             refusal: r,
-            point: PlanarPoint {
-                east: 0.0,
-                north: 0.0,
-            },
+            point: PlanarPoint::ORIGIN,
         }
     }
 }

@@ -6,8 +6,7 @@ use mathlib.Core.Bool.{Bool, true, false, cond, not, _&&_, _||_, true≢false, f
 use mathlib.Core.List.{List}
 use borrow.Author.Tests.{not-true, not-false}
 use lib.Dec.{ltb}
-use lib.Ieee.{Float, nan, inf, fin, lt, neg, ofBits}
-use Rattle.math.specs.Number.{abs}
+use lib.Ieee.{Float, le, neg}
 use Rattle.plane.specs.declared.PlanarPoint.{PlanarPoint}
 use Rattle.plane.specs.Plane.{same}
 use Rattle.error.specs.declared.Refusal.{Refusal}
@@ -19,20 +18,13 @@ use Rattle.loops.specs.Loop.{rounds}
 use Rattle.loops.proofs.Laws.{next-round, stays-to}
 use Rattle.ringcheck.specs.Checks.{max-coordinate, beyond, vertex-refusal, range-step, check-range, repeat-step, repeats}
 use Rattle.ringcheck.specs.Walks.{passes}
+use Rattle.ringcheck.proofs.Reach.{in-reach-is}
 
 -- ---- a number beyond the range
 
-none : (a : Bool) → (a || false) ≡ a
-none true = refl
-none false = refl
-
-pub beyond-is : (x : Float) → (lt max-coordinate x || lt x (neg max-coordinate)) ≡ beyond x
-unfolding beyond abs lt neg ofBits
-beyond-is nan = refl
-beyond-is (inf true) = refl
-beyond-is (inf false) = refl
-beyond-is (fin true m e) = refl
-beyond-is (fin false m e) = none _
+pub beyond-is : (x : Float) → not (le (neg max-coordinate) x && le x max-coordinate) ≡ beyond x
+unfolding beyond
+beyond-is x = ap not (in-reach-is x)
 
 -- ---- the range of every vertex
 

@@ -1,5 +1,5 @@
 -- polygon.rs, the check of a ring: questions 4 to 9, for a room, of the ring of this number. Assumes nothing.
-use mathlib.Core.Bool.{Bool, false, cond, _&&_, _||_}
+use mathlib.Core.Bool.{Bool, false, cond, not, _&&_, _||_}
 use lib.Ieee.{Float, binary64, lt, le, ofBits}
 use Prim.Native.Nat.{ℕ, _-_}
 use mathlib.Core.List.{List}
@@ -30,8 +30,9 @@ min-relative-area = ofBits binary64 0x3d719799812dea11
 unfoldable pub kept : List Float → ℕ → ℕ
 kept ps n = cond (ltb 1 n && same (vertex-at ps (n - 1)) (vertex-at ps 0)) (n - 1) n
 
+-- question 5 of a number: it is not within ±1e9. A NaN is not; the Rust asks for `>`, and its points are never NaN.
 unfoldable pub beyond : Float → Bool
-beyond x = lt max-coordinate (abs x)
+beyond x = not (le (abs x) max-coordinate)
 
 unfoldable pub vertex-refusal : ℕ → ℕ → ℕ → ℕ → PlanarPoint → Refusal
 vertex-refusal room ring n k v =

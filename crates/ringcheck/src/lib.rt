@@ -34,10 +34,11 @@ pub(crate) fn kept(ps: &[f64], n: usize) -> usize
     ring::choose((1 < n) & closes, last, n)
 }
 
+// Whether a number is not within the range. A NaN is not.
 pub(crate) fn beyond(x: f64) -> bool
     ensures { λ r. ⌜ r ≡ Checks.beyond x ⌝ }
 {
-    (MAX_COORDINATE < x) | (x < -MAX_COORDINATE)
+    !((-MAX_COORDINATE <= x) & (x <= MAX_COORDINATE))
 }
 
 // Range, east then north, then room.

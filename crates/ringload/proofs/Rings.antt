@@ -20,7 +20,7 @@ use Rattle.loops.specs.Loop.{rounds}
 use Rattle.loops.proofs.Laws.{next-round, stays-to, still, ends}
 use Rattle.ring.specs.Store.{stored}
 use Rattle.ringcheck.specs.Checks.{check-ring}
-use Rattle.polygon.specs.Outlines.{stored-outline, outline-refused, outline-of, new-outline}
+use Rattle.polygon.specs.Outlines.{no-outline, stored-outline, outline-refused, outline-of, new-outline}
 use Rattle.region.specs.Regions.{no-region, with-outer, store-hole, count-hole, with-hole}
 use Rattle.region.specs.Checks.{rings-refused, hole-loaded, hole-load-step, outer-loaded, load-rings}
 use Rattle.ringload.specs.Loads.{loaded, no-load, outer-alone, load-holes}
@@ -50,12 +50,14 @@ module _ (lengths : List ℕ) (ps : List Float) (o : Outline) where
           rw (g, e, f)
           (sym (ap (λ (r : Region). record { refusal = Granted; shape = r; start = start + n }) (hole-more (ltb k 8) o (stored part (c .count) (c .back) (32 * k) points) points (set counts k (c .count)) counts (k + 1))))
 
-      pub ring-refused : k < length lengths - 1 → granted (c .refusal) ≡ false → loaded (c .refusal) o points counts k start ≡ load-holes lengths ps o
-      unfolding loaded hole-loaded rings-refused load-holes hole-load-step
-      ring-refused l g =
-          sym
-          (stays-to (hole-load-step lengths ps) (outer-alone o (getD lengths 0 0)) (loaded (c .refusal) o points counts k start) (k + 1) (length lengths - 1) (omega arith) (step ∙ rw g refl)
-          (λ (j : ℕ). rw g refl))
+      pub ring-refused : (none : Outline) → none ≡ no-outline → k < length lengths - 1 → granted (c .refusal) ≡ false
+          → loaded (c .refusal) none (replicate 512 zero-float) (replicate 8 0) 0 start ≡ load-holes lengths ps o
+      unfolding loaded hole-loaded rings-refused load-holes hole-load-step no-region
+      ring-refused none e l g =
+          rw e
+          (sym
+          (stays-to (hole-load-step lengths ps) (outer-alone o (getD lengths 0 0)) (loaded (c .refusal) no-outline (replicate 512 zero-float) (replicate 8 0) 0 start) (k + 1) (length lengths - 1)
+          (omega arith) (step ∙ rw g refl) (λ (j : ℕ). rw g refl)))
 
     pub all-loaded : k ≤ length lengths - 1 → length lengths - 1 ≤ k → loaded Granted o points counts k start ≡ load-holes lengths ps o
     unfolding load-holes

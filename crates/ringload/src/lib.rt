@@ -88,7 +88,8 @@ pub(crate) fn loaded(
     }
 }
 
-// Questions 4 to 9 of each hole, one ring after the other, beside an outer ring that has passed them. The first refusal ends it.
+// Questions 4 to 9 of each hole, one ring after the other, beside an outer ring that has passed them. The first refusal ends it: the
+// shape beside it is empty.
 pub(crate) fn load_holes<'a>(lengths: &'a [usize], ps: &'a [f64], outer: Outline) -> RegionLoad
     requires { ⌜ Loads.lengths-fit (now lengths) (now ps) ≡ true ⌝ }
     ensures { λ r. ⌜ r ≡ Loads.load-holes (now (lengths .entry)) (now (ps .entry)) outer ⌝ }
@@ -106,7 +107,8 @@ pub(crate) fn load_holes<'a>(lengths: &'a [usize], ps: &'a [f64], outer: Outline
         let c = ringcheck::check_ring(32, place, part, n);
         let r = c.refusal;
         if !r.granted() {
-            return loaded(r, outer, points, counts, k, start);
+            let none = polygon::store::no_outline();
+            return loaded(r, none, [0.0; 512], [0; 8], 0, start);
         }
         let stored = store_hole(part, c.count, c.back, k, points);
         points = stored;

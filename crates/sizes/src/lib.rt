@@ -32,7 +32,7 @@ pub fn area(ps: &[f64], n: usize) -> NewArea
     } else {
         NewArea {
             refusal: r,
-            area: Area { value: 0.0 },
+            area: Area::ZERO,
         }
     }
 }

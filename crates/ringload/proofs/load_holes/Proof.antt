@@ -67,14 +67,20 @@ check-ring-requires c κs = search needs
 granted-requires : tie.Need-granted-requires Inv-loop μ-loop
 granted-requires c κs = search needs
 
+no-outline-requires : tie.Need-no-outline-requires Inv-loop μ-loop
+no-outline-requires c κs = search needs
+
 loaded-requires : tie.Need-loaded-requires Inv-loop μ-loop
 loaded-requires c κs = search needs
 
 returns : tie.Need-returns Inv-loop μ-loop
 returns c =
+    let loop = c .before .before .before .before .before .before .before .before .loop in
+    let refused = sym (c .before .before .before .granted .ensures) ∙ not-true _ (c .before .before .if1 .taken) in
     c .loaded .ensures ∙
-    ring-refused _ _ _ _ _ _ _ (c .before .before .before .before .before .before .before .loop .inv .5) _ (c .before .before .before .before .before .count-at2 .ensures) _ (part-from (c .before .before .before .before .before .before .before .before .before .before .before .before .args .ps .now) (2 * c .before .before .before .before .before .before .before .loop .start)) _ (c .before .before .before .check-ring .ensures)
-    (omega (arith, c .before .before .before .before .before .before .before .loop .inv .1, c .before .before .before .before .before .before .loop-test .taken)) (sym (c .before .before .granted .ensures) ∙ not-true _ (c .before .if1 .taken))
+    ring-refused _ _ _ _ _ _ _ (loop .inv .5) _ (c .before .before .before .before .before .before .count-at2 .ensures) _
+    (part-from (c .before .before .before .before .before .before .before .before .before .before .before .before .before .args .ps .now) (2 * loop .start)) _ (c .before .before .before .before .check-ring .ensures) _
+    (c .before .no-outline .ensures) (omega (arith, loop .inv .1, c .before .before .before .before .before .before .before .loop-test .taken)) refused
 
 store-hole-requires : tie.Need-store-hole-requires Inv-loop μ-loop
 store-hole-requires c κs = search needs
@@ -129,6 +135,7 @@ load-holes-spec =
     part-part-end
     check-ring-requires
     granted-requires
+    no-outline-requires
     loaded-requires
     returns
     store-hole-requires

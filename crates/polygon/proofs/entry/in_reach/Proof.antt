@@ -1,5 +1,5 @@
 -- `polygon::entry::in_reach` meets its contract. Assumes nothing.
-use Rattle.polygon.proofs.Reach.{in-reach-is}
+use Rattle.ringcheck.proofs.Reach.{in-reach-is}
 use Rattle.polygon.proofs.entry.in_reach.Statement.{statement}
 use Rattle.polygon.proofs.entry.in_reach.Tie as tie
 
