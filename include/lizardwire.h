@@ -79,9 +79,9 @@ extern "C" {
 /* Lent output of this many numbers is never too short: so much is in a full shape. */
 #define LW_OUTLINE_NUMBERS 256  /* lw_outline, lw_inset, lw_outset */
 #define LW_REGION_NUMBERS 768   /* lw_region, lw_region_inset */
-/* The longest job line that is read, in bytes, LF not counted. An answer line is
- * shorter (a full region's has 13,088), so lent output of this many bytes is never
- * too short. */
+/* The longest job line that is read, in bytes, LF not counted. An answer line has
+ * at most 13,098, which is proved, so lent output of this many bytes is never too
+ * short. */
 #define LW_LINE_BYTES 16384
 
 /* What lw_contains answers in `place`. */
