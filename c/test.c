@@ -6,11 +6,6 @@
 #include <stdio.h>
 #include <string.h>
 
-/* Absent until the library has them. */
-#pragma weak lw_region
-#pragma weak lw_region_inset
-#pragma weak lw_job_line
-
 static int checks, failures;
 
 static void holds(int truth, const char *said, int line)
@@ -281,13 +276,9 @@ static void test_job_line(void)
     CHECK(a.refusal == 20 && a.count == strlen(ok) && bytes[0] == '#');
 }
 
-static void run(const char *name, void (*test)(void), int there)
+static void run(const char *name, void (*test)(void))
 {
     int before = checks, failed = failures;
-    if (!there) {
-        printf("%-24s not in this library\n", name);
-        return;
-    }
     test();
     printf("%-24s %4d checks%s\n", name, checks - before, failures > failed ? ", FAILED" : "");
 }
@@ -295,16 +286,16 @@ static void run(const char *name, void (*test)(void), int there)
 int main(void)
 {
     fill_many();
-    run("lw_hypot", test_hypot, 1);
-    run("lw_check, lw_outline", test_check_and_outline, 1);
-    run("lw_contains", test_contains, 1);
-    run("lw_nearest", test_nearest, 1);
-    run("lw_area", test_area, 1);
-    run("lw_inset", test_inset, 1);
-    run("lw_outset", test_outset, 1);
-    run("lw_region", test_region, lw_region != NULL);
-    run("lw_region_inset", test_region_inset, lw_region_inset != NULL);
-    run("lw_job_line", test_job_line, lw_job_line != NULL);
+    run("lw_hypot", test_hypot);
+    run("lw_check, lw_outline", test_check_and_outline);
+    run("lw_contains", test_contains);
+    run("lw_nearest", test_nearest);
+    run("lw_area", test_area);
+    run("lw_inset", test_inset);
+    run("lw_outset", test_outset);
+    run("lw_region", test_region);
+    run("lw_region_inset", test_region_inset);
+    run("lw_job_line", test_job_line);
     if (failures)
         printf("%d of %d checks failed\n", failures, checks);
     return failures != 0;

@@ -23,4 +23,6 @@ pub mod job;
 pub mod lines;
 pub mod outlines;
 pub mod regions;
+pub mod stored;
 pub mod tally;
+pub mod wrong;

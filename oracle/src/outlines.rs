@@ -11,6 +11,7 @@ use std::fmt;
 use crate::answer::{bits, checked_distance, of_offset, of_ring, points, Refusal, ROOM};
 use crate::error::{KernelError, NavigationError};
 use crate::events;
+use crate::job::Job;
 use crate::region::{Area, Containment, PlanarPoint, Polygon};
 use crate::regions::{self, Changed, Given};
 
@@ -78,6 +79,22 @@ pub const NAMES: [&str; KINDS] = [
 ];
 
 impl Question {
+    /// What a job asks: of one ring an offset of its outline, of more an inset
+    /// of their region.
+    pub fn of_job(job: &Job) -> Self {
+        if job.counts.len() == 1 {
+            let outline = new_outline(&job.numbers).expect("an outline");
+            let numbers = numbers_of(&outline);
+            let count = numbers.len() as u64 / 2;
+            return Self::Offset(job.outset, job.distance, Shape { count, numbers });
+        }
+        let given = Given {
+            lengths: job.counts.iter().map(|count| *count as u64).collect(),
+            numbers: job.numbers.clone(),
+        };
+        Self::RegionInset(job.distance, given)
+    }
+
     /// The kind's number.
     pub fn kind(&self) -> usize {
         match self {
@@ -152,11 +169,15 @@ impl Question {
 
     /// The line, without LF.
     pub fn line(&self) -> String {
-        let answer = self.answer();
+        self.line_with(&self.answer())
+    }
+
+    /// The line with this answer, which need not be right.
+    pub fn line_with(&self, answer: &[u64]) -> String {
         let fields = [
-            vec![self.kind() as u64, answer.len() as u64],
+            &[self.kind() as u64, answer.len() as u64],
             answer,
-            self.fields(),
+            &self.fields(),
         ]
         .concat();
         let fields: Vec<String> = fields.iter().map(|field| format!("{field:016x}")).collect();

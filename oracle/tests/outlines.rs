@@ -2,9 +2,10 @@
 
 use std::collections::BTreeMap;
 
-use oracle::generate::{offset, question, region};
-use oracle::outlines::{Question, Shape, Tally, KINDS, NAMES};
+use oracle::answer::answer_line;
+use oracle::outlines::{Question, Shape, Tally, KINDS};
 use oracle::regions::Given;
+use oracle::{stored, wrong};
 
 const S: &[[f64; 2]] = &[[0.0, 0.0], [4.0, 0.0], [4.0, 4.0], [0.0, 4.0]];
 
@@ -101,7 +102,7 @@ fn drawn_offsets() -> Vec<(bool, f64, Vec<u64>)> {
 
 #[test]
 fn e8_e9_e10_e14_offsets() {
-    let lines: Vec<String> = stored_list().map(|asked| asked.line()).collect();
+    let lines: Vec<String> = stored::questions().map(|asked| asked.line()).collect();
     for (outward, distance, answer) in drawn_offsets() {
         let question = of_square(outward, distance);
         assert_eq!(question.answer(), answer, "{outward} {distance}");
@@ -195,18 +196,10 @@ fn a_line() {
     assert_eq!(line, "0000000000000006,0000000000000005,0000000000000000,0000000000000000,0000000000000000,0000000000000000,4014000000000000,0000000000000000,8000000000000000,4008000000000000,4010000000000000");
 }
 
-/// The stored list: 700 questions of each of the seeds 1, 2 and 3, 500 offsets
-/// of seed 22, and 500 questions about regions of seed 1.
-fn stored_list() -> impl Iterator<Item = Question> {
-    let asked = (1..=3).flat_map(|seed| (0..700).map(move |index| question(seed, index)));
-    let asked = asked.chain((0..500).map(|index| offset(22, index)));
-    asked.chain((0..500).map(|index| region(1, index)))
-}
-
 #[test]
 fn the_stored_list_reaches_every_number() {
     let mut tally = Tally::default();
-    for question in stored_list() {
+    for question in stored::questions() {
         tally.add(&question);
     }
     let reached: [&[usize]; KINDS] = [
@@ -330,7 +323,7 @@ fn outline_cases(numbers: &[f64], answer: &[u64]) -> Vec<(&'static str, bool)> {
 fn the_stored_list_reaches_every_case_of_an_outline() {
     let mut cases = Cases::default();
     let (mut least, mut most) = (f64::INFINITY, 0.0_f64);
-    for question in stored_list() {
+    for question in stored::questions() {
         let Question::Outline(numbers) = &question else {
             continue;
         };
@@ -559,7 +552,7 @@ fn offset_cases(
 #[test]
 fn the_stored_list_reaches_every_case_of_the_rest() {
     let mut cases = Cases::default();
-    for question in stored_list() {
+    for question in stored::questions() {
         cases.add(other_cases(&question, &question.answer()));
     }
     assert_eq!(cases.missed(), [""; 0]);
@@ -641,37 +634,83 @@ fn e11_regions() {
     assert_eq!(refused[4], 2.0_f64.to_bits());
 }
 
-/// A file of the program that reads the list.
-fn of_replay(name: &str) -> String {
-    let path = format!("{}/../crates/replay/{name}", env!("CARGO_MANIFEST_DIR"));
-    std::fs::read_to_string(path).expect("a file of the program")
+/// A file of a program that reads a stored list.
+fn of_program(name: &str) -> Vec<u8> {
+    let path = format!("{}/../crates/{name}", env!("CARGO_MANIFEST_DIR"));
+    std::fs::read(path).expect("a file of the program")
 }
 
 #[test]
-fn the_stored_list_is_what_the_replay_reads() {
-    let list: String = stored_list().map(|asked| asked.line() + "\n").collect();
-    assert!(list == of_replay("stdin"), "tools/outlines makes it again");
-}
-
-#[test]
-fn the_replay_is_to_count_the_stored_list() {
-    let mut counts = [0; KINDS];
-    for question in stored_list() {
-        counts[question.kind()] += 1;
+fn the_stored_lists_are_those_that_the_programs_read() {
+    let replayed = stored::replayed().join("\n") + "\n";
+    for (name, made) in [
+        ("replay/stdin", replayed.into_bytes()),
+        ("replay/stdout", stored::counts().into_bytes()),
+        ("lizardwire/stdin", stored::jobs()),
+        ("lizardwire/stdout", stored::answers().into_bytes()),
+    ] {
+        assert!(made == of_program(name), "tools/stored makes {name} again");
     }
-    let total: usize = counts.iter().sum();
-    let rows = NAMES.into_iter().zip(counts);
-    let rows = rows.chain([("unread", 0), ("total", total)]);
-    let rows = rows.map(|(name, count)| format!("{name:<9} {count} compared, 0 differ\n"));
-    assert_eq!(rows.collect::<String>(), of_replay("stdout"));
 }
 
 #[test]
 fn the_stored_list_fits_the_replay() {
-    for question in stored_list() {
-        let fields = 2 + question.answer().len() + question.fields().len();
+    for line in stored::replayed() {
+        let fields = (line.len() + 1) / 17;
         assert!(fields <= 1100, "{fields}");
     }
-    let bytes = of_replay("stdin").len();
+    let bytes = of_program("replay/stdin").len();
     assert!(bytes < 4_194_304, "{bytes}");
+}
+
+/// Of each kind every field of an answer is wrong in some line; the rest of the
+/// line is that of the right one.
+#[test]
+fn wrong_answers_are_wrong() {
+    let lines = wrong::lines();
+    for asked in wrong::asked() {
+        let right = asked.line();
+        let fields: Vec<&str> = right.split(',').collect();
+        for place in 2..2 + asked.answer().len() {
+            let wrong = lines.iter().filter(|(kind, line)| {
+                let other: Vec<&str> = line.split(',').collect();
+                *kind == Some(asked.kind())
+                    && other.len() == fields.len()
+                    && (0..fields.len()).all(|k| (k == place) == (other[k] != fields[k]))
+            });
+            assert_eq!(wrong.count(), 1, "field {place} of {right}");
+        }
+    }
+    let kinds: Vec<usize> = wrong::asked().iter().map(Question::kind).collect();
+    assert!((0..KINDS).all(|kind| kinds.contains(&kind)), "{kinds:?}");
+}
+
+#[test]
+fn the_stored_jobs_reach_every_number() {
+    let answers = stored::answers();
+    for number in (1..=19).chain([22]) {
+        let answer = format!("no,{number}");
+        let count = answers.lines().filter(|line| **line == answer).count();
+        assert!(count >= 12, "{number}: {count}");
+    }
+    let accepted = answers.lines().filter(|line| line.starts_with("ok,"));
+    assert!(accepted.count() >= 100);
+}
+
+#[test]
+fn the_stored_jobs_cut_a_line_and_fill_the_output() {
+    let jobs = stored::jobs();
+    let (before, after) = jobs.split_at(stored::CUT);
+    let lf = |byte: &u8| *byte == b'\n';
+    let from = before.iter().rposition(lf).expect("a line before") + 1;
+    let to = after.iter().position(lf).expect("its end");
+    let cut = [&before[from..], &after[..to]].concat();
+    assert!(from < stored::CUT && to > 0);
+    assert!(answer_line(&cut).line().starts_with("ok,1,4,"));
+    // In the block that begins there: empty lines, with two blocks of answers.
+    assert!(after.len() <= stored::BLOCK);
+    assert!(after[to..].starts_with(&vec![b'\n'; stored::EMPTY + 1]));
+    assert!("no,22\n".len() * stored::EMPTY > 2 * stored::BLOCK);
+    // The last line has no LF.
+    assert_eq!(jobs.last(), Some(&b'0'));
 }

@@ -5,8 +5,6 @@ import sys
 import tempfile
 import unittest
 
-from lizardwire import _library
-
 HERE = os.path.dirname(os.path.abspath(__file__))
 PYTHON = os.path.dirname(HERE)
 TOP = os.path.dirname(PYTHON)
@@ -19,10 +17,6 @@ JOB = ("inset,3ff0000000000000,1,4,0000000000000000,0000000000000000,40100000000
        "4010000000000000,4010000000000000,0000000000000000,4010000000000000")
 ANSWER = ("ok,1,4,3ff0000000000000,3ff0000000000000,4008000000000000,3ff0000000000000,"
           "4008000000000000,4008000000000000,3ff0000000000000,4008000000000000")
-
-# Left out until the library has them.
-regions = unittest.skipUnless(_library.has("lw_region") and _library.has("lw_region_inset"), "no regions in this library")
-job_lines = unittest.skipUnless(_library.has("lw_job_line"), "no job lines in this library")
 
 
 def comb(count):

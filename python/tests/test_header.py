@@ -85,14 +85,15 @@ class Declared(unittest.TestCase):
         self.assertEqual(rust_functions(source), self.functions)
 
     def test_the_exported_functions(self):
-        """Of those that are there yet."""
         source = text("crates", "lizardwire_c", "src", "lib.rt")
-        for name, fields in rust_structs(source).items():
-            self.assertEqual(fields, self.structs[name], name)
+        structs = {**rust_structs(source), **rust_structs(text("crates", "region_c", "src", "lib.rt"))}
+        self.assertEqual(structs, self.structs)
         exported = rust_functions("\n".join(re.findall(r'extern "C" (fn [^{]*?-> \w+)', source)))
-        self.assertIn("lw_inset", exported)
-        for name, types in exported.items():
-            self.assertEqual(types, self.functions[name], name)
+        self.assertEqual(exported, self.functions)
+
+    def test_the_library(self):
+        for name in self.functions:
+            self.assertTrue(_library.has(name), f"the library has no {name}")
 
     def test_the_numbers_of_room(self):
         defined = dict(re.findall(r"#define LW_(\w+) (\d+)", text("include", "lizardwire.h")))

@@ -5,7 +5,7 @@ import unittest
 
 from lizardwire import Answer, Job, Refused, _library, answer_line, read_jobs, write_jobs
 from lizardwire.jobs import lines
-from tests.support import ANSWER, JOB, PANE, SQUARE, TOP, Folder, job_lines, regions
+from tests.support import ANSWER, JOB, PANE, SQUARE, TOP, Folder
 
 
 def sample(name):
@@ -85,12 +85,10 @@ class Sample(Folder):
                 ours, theirs = Job.read(job).answer(), Answer.read(told)
                 self.assertEqual((ours.words(), ours.event_words()), (theirs.words(), theirs.event_words()))
 
-    @regions
     def test_regions(self):
         for job, answer in zip(sample("sample.jobs"), sample("sample.answers")):
             self.assertEqual(Job.read(job).answer().line().encode(), answer)
 
-    @job_lines
     def test_lines(self):
         for job, answer in zip(sample("sample.jobs"), sample("sample.answers")):
             self.assertEqual(answer_line(job), answer)

@@ -10,7 +10,7 @@ from unittest import mock
 
 import lizardwire
 from lizardwire import Events, LibraryMissing, Outline, Place, Refused, Region, _library, hypot, inset, outset
-from tests.support import BOW, PANE, PYTHON, SQUARE, comb, regions
+from tests.support import BOW, PANE, PYTHON, SQUARE, comb
 
 
 class Examples(unittest.TestCase):
@@ -57,7 +57,6 @@ class Examples(unittest.TestCase):
     def test_e10_outset(self):
         self.assertEqual(outset(SQUARE, 1).outer, [(-1, 5), (-1, -1), (5, -1), (5, 5)])
 
-    @regions
     def test_e11_a_region(self):
         cage = inset(PANE, 1)
         self.assertEqual(cage.holes, [[(3, 7), (3, 3), (7, 3), (7, 7)]])
@@ -110,14 +109,12 @@ class Questions(unittest.TestCase):
 
 
 class Regions(unittest.TestCase):
-    @regions
     def test_rings(self):
         region = Region(PANE)
         self.assertEqual(region.rings, PANE)
         self.assertEqual(region, Region.from_numbers([n for ring in PANE for point in ring for n in point], [4, 4]))
         self.assertEqual(Region(SQUARE).rings, [SQUARE])
 
-    @regions
     def test_refusals(self):
         small = [(1, 1), (2, 1), (2, 2), (1, 2)]
         for number, values, rings in (
@@ -131,7 +128,6 @@ class Regions(unittest.TestCase):
                 inset(rings, 1)
             self.assertEqual((caught.exception.number, caught.exception.values), (number, values))
 
-    @regions
     def test_words_name_the_hole(self):
         with self.assertRaises(Refused) as caught:
             Region([PANE[0], [(1, 1), (math.nan, 1), (2, 2)]])

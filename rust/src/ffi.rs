@@ -74,7 +74,6 @@ extern "C" {
     ) -> LwOffset;
 }
 
-#[cfg(regions)]
 #[repr(C)]
 pub(crate) struct LwRegion {
     pub refusal: usize,
@@ -86,7 +85,6 @@ pub(crate) struct LwRegion {
     pub counts: [usize; 9],
 }
 
-#[cfg(regions)]
 #[repr(C)]
 pub(crate) struct LwRegionOffset {
     pub refusal: usize,
@@ -101,7 +99,6 @@ pub(crate) struct LwRegionOffset {
     pub joins: usize,
 }
 
-#[cfg(regions)]
 extern "C" {
     pub(crate) fn lw_region(
         numbers: *const f64,
@@ -122,14 +119,12 @@ extern "C" {
     ) -> LwRegionOffset;
 }
 
-#[cfg(lines)]
 #[repr(C)]
 pub(crate) struct LwLine {
     pub refusal: usize,
     pub count: usize,
 }
 
-#[cfg(lines)]
 extern "C" {
     pub(crate) fn lw_job_line(
         line: *const u8,

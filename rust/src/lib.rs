@@ -28,9 +28,7 @@ mod shapes;
 pub mod slices;
 
 pub use refusal::Refusal;
-#[cfg(lines)]
 pub use shapes::answer_line;
-#[cfg(regions)]
 pub use shapes::Region;
 pub use shapes::{Outline, Point};
 pub use slices::{hypot, Events, Nearest, Place};

@@ -101,7 +101,6 @@ impl Outline {
 }
 
 /// An outline with up to 8 holes of up to 32 vertices each.
-#[cfg(regions)]
 #[derive(Debug, Clone)]
 pub struct Region {
     // As it was given: an inset checks it once more.
@@ -109,14 +108,12 @@ pub struct Region {
     rings: Vec<Vec<Point>>,
 }
 
-#[cfg(regions)]
 impl PartialEq for Region {
     fn eq(&self, other: &Self) -> bool {
         self.rings == other.rings
     }
 }
 
-#[cfg(regions)]
 impl Region {
     /// The region of these rings, the outer one first: 2 to 12.
     pub fn new<R: AsRef<[Point]>>(rings: &[R]) -> Result<Self, Refusal> {
@@ -159,12 +156,10 @@ impl Region {
 }
 
 /// Lent memory, long enough for any region.
-#[cfg(regions)]
 fn region_room() -> [f64; 768] {
     [0.0; 768]
 }
 
-#[cfg(regions)]
 fn rings_of(out: &[f64], told: slices::Rings) -> Vec<Vec<Point>> {
     let mut points = points_of(out).into_iter();
     let lengths = &told.counts[..told.rings];
@@ -175,7 +170,6 @@ fn rings_of(out: &[f64], told: slices::Rings) -> Vec<Vec<Point>> {
 }
 
 /// The answer to a job line, both without LF. A refused job is an answer, too: `no` and the number.
-#[cfg(lines)]
 pub fn answer_line(line: &[u8]) -> Vec<u8> {
     let mut out = vec![0; crate::LINE_BYTES];
     let count =

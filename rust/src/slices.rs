@@ -38,7 +38,6 @@ pub struct Events {
 }
 
 /// The rings of a region: how many, and the vertices of each, the outer one first.
-#[cfg(regions)]
 #[derive(Debug, Clone, Copy, PartialEq, Eq)]
 pub struct Rings {
     /// The outer ring and the holes.
@@ -143,7 +142,6 @@ pub fn outset(outline: &[f64], distance: f64, out: &mut [f64]) -> (Result<usize,
 }
 
 /// Writes the region of these numbers to `out`, ring after ring; `lengths` has the vertices of each ring: 1 to 12, then 20.
-#[cfg(regions)]
 pub fn region(numbers: &[f64], lengths: &[usize], out: &mut [f64]) -> Result<Rings, Refusal> {
     // SAFETY: each pointer leads to as many numbers as are said, and a `&mut` is apart from a `&`.
     let a = unsafe {
@@ -164,7 +162,6 @@ pub fn region(numbers: &[f64], lengths: &[usize], out: &mut [f64]) -> Result<Rin
 }
 
 /// Writes the inset of the region of these numbers to `out`: 1 to 14, what the offset meets, then 20.
-#[cfg(regions)]
 pub fn region_inset(
     numbers: &[f64],
     lengths: &[usize],
@@ -199,7 +196,6 @@ pub fn region_inset(
 }
 
 /// Writes the answer to a job line to `out`, both without LF, and says how many bytes it has: 20. A refused job is an answer, too.
-#[cfg(lines)]
 pub fn job_line(line: &[u8], out: &mut [u8]) -> Result<usize, Refusal> {
     // SAFETY: both pointers lead to as many bytes as are said, and a `&mut` is apart from a `&`.
     let a = unsafe { ffi::lw_job_line(line.as_ptr(), line.len(), out.as_mut_ptr(), out.len()) };

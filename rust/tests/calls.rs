@@ -142,7 +142,6 @@ fn refusals_have_their_numbers_and_words() {
     assert!(error.downcast_ref::<Refusal>().is_some());
 }
 
-#[cfg(lines)]
 #[test]
 fn job_lines() {
     let job = b"inset,3ff0000000000000,1,4,0000000000000000,0000000000000000,4010000000000000,0000000000000000,4010000000000000,4010000000000000,0000000000000000,4010000000000000";

@@ -110,7 +110,6 @@ fn e10_outset() {
     );
 }
 
-#[cfg(regions)]
 #[test]
 fn e11_a_region() {
     use lizardwire::{slices, Region};

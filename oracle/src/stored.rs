@@ -1,0 +1,151 @@
+//! The stored lists: the job lines that the program `lizardwire` answers in
+//! the gate, and the questions that the program `replay` asks.
+
+use std::collections::BTreeMap;
+
+use crate::answer::{answer_line, Answer};
+use crate::generate::{self, offset, question, region};
+use crate::job::{Job, LONGEST};
+use crate::outlines::Question;
+
+/// Job lines for places that few drawn jobs reach, with words about them.
+const CHOSEN: &str = include_str!("../chosen.jobs");
+
+/// The job lines of `chosen.jobs`.
+pub fn chosen() -> impl Iterator<Item = &'static [u8]> {
+    let lines = CHOSEN.lines();
+    let lines = lines.filter(|line| !line.is_empty() && !line.starts_with('#'));
+    lines.map(str::as_bytes)
+}
+
+/// Bytes that the program reads at once, and that it writes at once.
+pub const BLOCK: usize = 65_536;
+/// Where a job line lies across the end of a block.
+pub const CUT: usize = 5 * BLOCK;
+/// Drawn jobs of each answer.
+const EACH: usize = 12;
+/// Bytes of the line across `CUT` that come before it.
+const BEFORE: usize = 80;
+/// Empty lines: their answers fill the block that is written twice, and are
+/// all in one block that is read.
+pub const EMPTY: usize = 24_000;
+
+/// E8.
+const SQUARE: &[u8] = b"inset,3ff0000000000000,1,4,0000000000000000,0000000000000000,4010000000000000,0000000000000000,4010000000000000,4010000000000000,0000000000000000,4010000000000000";
+
+/// Of each answer, the refusal's number or 0 where it is accepted, the first
+/// drawn jobs; line by line from the start of the load.
+fn each() -> Vec<Vec<u8>> {
+    let mut counts = BTreeMap::new();
+    let mut lines = Vec::new();
+    for index in 0..5_000 {
+        let line = generate::line(1, index, false, None).expect("a line");
+        let count = counts.entry(number(&answer_line(&line))).or_insert(0);
+        if *count < EACH && line.len() < 8_000 {
+            *count += 1;
+            lines.push(line);
+        }
+    }
+    lines
+}
+
+/// The refusal's number, 0 where there is none.
+fn number(answer: &Answer) -> u32 {
+    answer
+        .result
+        .as_ref()
+        .map_or_else(|refusal| refusal.number, |_| 0)
+}
+
+/// A line of the longest that is allowed, well formed, and one a byte longer.
+fn longest() -> Vec<Vec<u8>> {
+    let drawn = (0..).map(|index| generate::line(1, index, false, Some("longest")));
+    let mut drawn = drawn.map(|line| line.expect("a line"));
+    let mut of = |length| {
+        let sought = |line: &Vec<u8>| line.len() == length && line.starts_with(b"inset");
+        drawn.find(sought).expect("a line of this length")
+    };
+    vec![of(LONGEST), of(LONGEST + 1)]
+}
+
+/// Accepted jobs of another seed, as many as there is room for.
+fn accepted(mut room: usize) -> Vec<Vec<u8>> {
+    let mut lines = Vec::new();
+    for index in 0..2_000 {
+        let line = generate::line(2, index, false, None).expect("a line");
+        if line.len() < room.min(1_000) && number(&answer_line(&line)) == 0 {
+            room -= line.len() + 1;
+            lines.push(line);
+        }
+    }
+    lines
+}
+
+/// crates/lizardwire/stdin: the chosen jobs, drawn ones of every answer, the
+/// longest lines, accepted ones up to the end of a block, a line across that
+/// end, empty lines, and a last line without LF.
+pub fn jobs() -> Vec<u8> {
+    let mut lines: Vec<Vec<u8>> = chosen().map(<[u8]>::to_vec).collect();
+    lines.extend(each());
+    lines.extend(longest());
+    let size = |lines: &[Vec<u8>]| lines.iter().map(|line| line.len() + 1).sum::<usize>();
+    lines.extend(accepted(CUT - BEFORE - 1 - size(&lines)));
+    // No job, but of the length that is wanted.
+    let length = CUT - BEFORE - 1 - size(&lines);
+    lines.push(vec![b'0'; length]);
+    lines.push(SQUARE.to_vec());
+    lines.extend(vec![Vec::new(); EMPTY]);
+    lines.push(SQUARE.to_vec());
+    lines.join(&b'\n')
+}
+
+/// crates/lizardwire/stdout: an answer line for each.
+pub fn answers() -> String {
+    let jobs = jobs();
+    let lines = jobs.split(|byte| *byte == b'\n');
+    lines.map(|line| answer_line(line).line() + "\n").collect()
+}
+
+/// The questions of the stored list: 700 of each of the seeds 1, 2 and 3, 500
+/// offsets of seed 22, 500 questions about regions of seed 1, and the chosen
+/// jobs: of one ring as an offset, of more as an inset of a region.
+pub fn questions() -> impl Iterator<Item = Question> {
+    let asked = (1..=3).flat_map(|seed| (0..700).map(move |index| question(seed, index)));
+    let asked = asked.chain((0..500).map(|index| offset(22, index)));
+    let asked = asked.chain((0..500).map(|index| region(1, index)));
+    asked.chain(chosen().map(|line| {
+        let job = Job::read(line).expect("a chosen job");
+        Question::of_job(&job)
+    }))
+}
+
+/// crates/replay/stdin: the questions with their answers, then those with
+/// wrong ones.
+pub fn replayed() -> Vec<String> {
+    let lines = questions().map(|question| question.line());
+    let wrong = crate::wrong::lines();
+    lines
+        .chain(wrong.into_iter().map(|(_, line)| line))
+        .collect()
+}
+
+/// crates/replay/stdout: how many lines of each kind there are, and how many of
+/// them have a wrong answer.
+pub fn counts() -> String {
+    use crate::outlines::{KINDS, NAMES};
+    let (mut compared, mut differ) = ([0; KINDS + 2], [0; KINDS + 2]);
+    for question in questions() {
+        compared[question.kind()] += 1;
+    }
+    for (kind, _) in crate::wrong::lines() {
+        let place = kind.unwrap_or(KINDS);
+        compared[place] += 1;
+        differ[place] += 1;
+    }
+    compared[KINDS + 1] = compared.iter().sum();
+    differ[KINDS + 1] = differ.iter().sum();
+    let names = NAMES.into_iter().chain(["unread", "total"]);
+    let rows = names.zip(compared.into_iter().zip(differ));
+    rows.map(|(name, (all, wrong))| format!("{name:<9} {all} compared, {wrong} differ\n"))
+        .collect()
+}

@@ -1,0 +1,105 @@
+//! Questions stored with an answer that is wrong on purpose: a comparison that
+//! cannot fail shows by them.
+//!
+//! Of a question of each kind, granted and refused, every field of the answer is
+//! wrong once, the others being right; and once each it has a field too many
+//! and one too few. Some lines cannot be read at all.
+
+use crate::outlines::{Question, Shape, KINDS};
+use crate::regions::{Changed, Given};
+
+/// A triangle, and a square of side 10.
+const TRIANGLE: &[f64] = &[0.0, 0.0, 4.0, 0.0, 0.0, 3.0];
+const SQUARE: &[f64] = &[0.0, 0.0, 10.0, 0.0, 10.0, 10.0, 0.0, 10.0];
+
+fn shape(numbers: &[f64]) -> Shape {
+    Shape {
+        count: numbers.len() as u64 / 2,
+        numbers: numbers.to_vec(),
+    }
+}
+
+/// The square with a hole, from (4, 4) on.
+fn given(hole: &[f64]) -> Given {
+    Given {
+        lengths: vec![4, hole.len() as u64 / 2],
+        numbers: [SQUARE, hole].concat(),
+    }
+}
+
+/// Questions of each kind.
+pub fn asked() -> Vec<Question> {
+    let triangle = || shape(TRIANGLE);
+    let far = [20.0, 0.0, 24.0, 0.0, 20.0, 3.0];
+    let hole = [4.0, 4.0, 6.0, 4.0, 6.0, 6.0, 4.0, 6.0];
+    let crossed = vec![0.0, 0.0, 4.0, 4.0, 4.0, 0.0, 0.0, 2.0];
+    vec![
+        Question::Outline(TRIANGLE.to_vec()),
+        // 9 with two edges, and 5 with the value.
+        Question::Outline(crossed),
+        Question::Outline(vec![0.0, 0.0, 2e9, 0.0, 0.0, 1.0]),
+        Question::Contains(triangle(), [1.0, 1.0]),
+        Question::Contains(triangle(), [1.0, f64::NAN]),
+        Question::Nearest(triangle(), [5.0, 1.0]),
+        Question::Measures(triangle()),
+        Question::Clearance(triangle(), shape(&far)),
+        Question::Edge(triangle(), 1),
+        Question::Point([1.0, 2.0], [4.0, 6.0]),
+        Question::Area(2.5),
+        Question::Area(-1.0),
+        Question::Offset(false, 0.5, triangle()),
+        Question::Offset(true, 0.5, triangle()),
+        // 16 with the distance, after a collapse.
+        Question::Offset(false, 6.0, shape(SQUARE)),
+        Question::Region(given(&hole)),
+        // 4 of ring 1, and 11.
+        Question::Region(given(&hole[..4])),
+        Question::Region(given(&[4.0, 4.0, 14.0, 4.0, 4.0, 5.0])),
+        Question::RegionInset(1.0, given(&hole)),
+        // Granted after joins, and 17 with the distance.
+        Question::RegionInset(1.0, given(&[9.0, 4.5, 9.5, 5.0, 9.0, 5.5, 8.5, 5.0])),
+        Question::RegionInset(2.0, given(&hole)),
+        Question::RegionPoint(given(&hole), [3.0, 5.0], Changed { place: 0, value: 0 }),
+        Question::RegionPoint(given(&hole), [3.0, 5.0], Changed { place: 1, value: 2 }),
+    ]
+}
+
+/// The wrong answers to a question.
+fn answers(question: &Question) -> Vec<Vec<u64>> {
+    let right = question.answer();
+    let one_wrong = |place: usize| {
+        let mut answer = right.clone();
+        answer[place] = answer[place].wrapping_add(1);
+        answer
+    };
+    let mut wrong: Vec<Vec<u64>> = (0..right.len()).map(one_wrong).collect();
+    wrong.push([&right[..], &[0]].concat());
+    wrong.push(right[..right.len() - 1].to_vec());
+    wrong
+}
+
+/// Lines that cannot be read: a kind that is none, an answer longer than the
+/// line, a digit that is none, a field too short, no field.
+fn unread() -> [String; 5] {
+    let field = |value: u64| format!("{value:016x}");
+    let line = Question::Area(2.5).line();
+    [
+        [field(KINDS as u64), field(0)].join(","),
+        [field(7), field(8), field(0)].join(","),
+        line.replace('a', "A").replace('4', "g"),
+        line[1..].to_string(),
+        String::new(),
+    ]
+}
+
+/// The lines, without LF, each with its kind where it has one.
+pub fn lines() -> Vec<(Option<usize>, String)> {
+    let mut lines = Vec::new();
+    for question in asked() {
+        for answer in answers(&question) {
+            lines.push((Some(question.kind()), question.line_with(&answer)));
+        }
+    }
+    lines.extend(unread().map(|line| (None, line)));
+    lines
+}
