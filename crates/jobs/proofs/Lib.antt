@@ -8,3 +8,4 @@ pub mod Refused
 pub mod Stream
 pub mod Answers
 pub mod Table
+pub mod Sizes
