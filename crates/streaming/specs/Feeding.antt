@@ -10,6 +10,8 @@ use Rattle.loops.specs.Loop.{rounds}
 use Rattle.digits.specs.Stores.{put}
 use Rattle.jobs.specs.Fields.{line-feed}
 use Rattle.streaming.specs.declared.Next.{Next}
+use Rattle.streaming.specs.declared.Outcome.{Outcome}
+use Rattle.streaming.specs.declared.Outcome.the-variants.{Whole, Full, Unheld, Miscounted}
 use Rattle.jobs.specs.Stream.{StreamState, answered, answers, block-taken, joined, written}
 
 -- ---- where a line ends
@@ -127,6 +129,16 @@ feed-start held count out = record { at = 0; held = held; count = count; out = o
 unfoldable pub fed : List ℕ → List ℕ → ℕ → List ℕ → Feed
 fed block held count out = rounds (feed-step block) (length block + 1) (feed-start held count out)
 
+-- ---- how a call ended
+
+-- where its memory has the room: all is taken, or an answer does not fit the output
+unfoldable pub how-ended : Bool → Outcome
+how-ended whole = cond whole Whole Full
+
+-- first the memory lent for a cut line, then the count of what it is said to hold
+unfoldable pub memory-outcome : List ℕ → ℕ → Outcome → Outcome
+memory-outcome held count o = cond (leb most-held (length held)) (cond (leb count most-held) o Miscounted) Unheld
+
 -- ---- what is to hold
 
 -- the machine in the state that is held
@@ -168,5 +180,5 @@ AnyCalls = (held : List ℕ) (calls : List Call) → most-held ≤ length held �
 
 -- opens every definition above, for a proof that computes with all of them
 unfoldable pub open-feeding : Unit {0}
-unfolding before-by before-feed line-end line-part held-with count-with is-ended is-direct next-count next-held next-bytes next-of feed-cut feed-answered feed-full feed-ended feed-line feed-step feed-start fed call-fed all-taken all-written
+unfolding before-by before-feed line-end line-part held-with count-with is-ended is-direct next-count next-held next-bytes next-of feed-cut feed-answered feed-full feed-ended feed-line feed-step feed-start fed how-ended memory-outcome call-fed all-taken all-written
 open-feeding = tt
