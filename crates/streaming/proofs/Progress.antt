@@ -121,7 +121,7 @@ module _ (block held : List ℕ) (count : ℕ) (out : List ℕ) (r : most-held �
     where
       go : (t : Bool) → is-ended block (s .at) ≡ t
           → Going block (suc k) (cond t (feed-ended block s (answered (next-bytes block (s .at) (s .held) (s .count)))) (feed-cut block s))
-            ((cond t (feed-ended block s (answered (next-bytes block (s .at) (s .held) (s .count)))) (feed-cut block s)) .more)
+          ((cond t (feed-ended block s (answered (next-bytes block (s .at) (s .held) (s .count)))) (feed-cut block s)) .more)
       go true e = ended-goes g e (answered (next-bytes block (s .at) (s .held) (s .count))) refl
       go false e = one-cut block k s (cut-end block held count out r s f e)
 
@@ -374,7 +374,7 @@ module _ (t : Turns) (r : most-held ≤ length (t .held)) (o : 16385 ≤ length 
 
     turn-same : block-taken (machine (u .held) (u .count) (u .sent)) (u .rest)
         ≡ block-taken (machine ((fed (u .rest) (u .held) (u .count) (u .out)) .held) ((fed (u .rest) (u .held) (u .count) (u .out)) .count)
-          (u .sent ++ take ((fed (u .rest) (u .held) (u .count) (u .out)) .used) ((fed (u .rest) (u .held) (u .count) (u .out)) .out))) (drop ((fed (u .rest) (u .held) (u .count) (u .out)) .at) (u .rest))
+        (u .sent ++ take ((fed (u .rest) (u .held) (u .count) (u .out)) .used) ((fed (u .rest) (u .held) (u .count) (u .out)) .out))) (drop ((fed (u .rest) (u .held) (u .count) (u .out)) .at) (u .rest))
     unfolding s after-output
     turn-same =
         ap (block-taken (machine (u .held) (u .count) (u .sent))) (sym (take-append-drop (s .at) (u .rest)))

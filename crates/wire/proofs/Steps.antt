@@ -13,13 +13,17 @@ use Rattle.loops.proofs.Laws.{next-round, stays-to}
 use Rattle.digits.specs.Stores.{put}
 use Rattle.jobs.specs.Stream.{answered}
 use Rattle.streaming.specs.declared.Next.{Next}
-use Rattle.streaming.specs.Feeding.{before-feed, line-end, line-part, most-held, count-with, is-ended, is-direct, next-count, next-held, next-bytes, next-of, Feed, feed-cut, feed-answered, feed-full, feed-ended, feed-line, feed-step, feed-start, fed}
+use Rattle.streaming.specs.declared.Outcome.{Outcome}
+use Rattle.streaming.specs.declared.Outcome.the-variants.{Whole, Unheld, Miscounted}
+use Rattle.streaming.specs.Feeding.{before-feed, line-end, line-part, most-held, count-with, is-ended, is-direct, next-count, next-held, next-bytes, next-of, Feed, feed-cut, feed-answered, feed-full, feed-ended, feed-line, feed-step, feed-start, fed, how-ended, memory-outcome}
 use Rattle.streaming.proofs.Parts.{end-from}
 use Rattle.streaming.proofs.Machine.{part-most, feeds-to}
 use Rattle.wire.specs.declared.Put.{Put}
 use Rattle.wire.specs.declared.Step.{Step}
 use Rattle.wire.specs.declared.Fed.{Fed}
-use Rattle.wire.specs.Wire.{answer-fits, answer-put, put-written, line-of, feed-of, step-told, held-of, out-of, holds, stuck, stream-fed, told, last-line, finished, finish-written}
+use Rattle.wire.specs.declared.Taken.{Taken}
+use Rattle.wire.specs.declared.Last.{Last}
+use Rattle.wire.specs.Wire.{answer-fits, answer-put, put-written, line-of, feed-of, step-told, held-of, out-of, holds, stuck, stream-fed, told, feed-as, feed-told, last-line, finished, finish-written, finish-told}
 
 -- ---- the line that was found
 
@@ -199,7 +203,7 @@ module _ (block held₀ : List ℕ) (count : ℕ) (out₀ : List ℕ) (k at : �
         one : (x y : ℕ) → x < y → x + 1 ≤ y
         one x y h = omega arith
 
-    pub end-told : _≡_ {A = Fed} (record { taken = at; count = have; used = used }) (told (fed block held₀ count out₀))
+    pub end-told : _≡_ {A = Taken} (record { at = at; count = have; used = used }) (told (fed block held₀ count out₀))
     unfolding told feed-of
     end-told = ap told all-fed
 
@@ -240,9 +244,9 @@ module _ (block held₀ : List ℕ) (count : ℕ) (out₀ : List ℕ) (k at : �
           still : (f : Feed) → f .more ≡ false → (i : ℕ) → feed-step block i f ≡ f
           still f m i = not-fed block i f m
 
-      pub stop-told : _≡_ {A = Fed} (record { taken = s .at; count = s .count; used = s .used }) (told (fed block held₀ count out₀))
+      pub stop-told : _≡_ {A = Taken} (record { at = s .at; count = s .count; used = s .used }) (told (fed block held₀ count out₀))
       unfolding told step-told
-      stop-told = ap (λ (x : Step). record { taken = x .at; count = x .count; used = x .used }) p ∙ ap told stopped
+      stop-told = ap (λ (x : Step). record { at = x .at; count = x .count; used = x .used }) p ∙ ap told stopped
 
       pub stop-held : held₁ ≡ held-of (fed block held₀ count out₀)
       stop-held = q ∙ ap held-of stopped
@@ -254,17 +258,23 @@ pub starts : (block held : List ℕ) (count : ℕ) (out : List ℕ) → feed-of 
 unfolding feed-of feed-start rounds
 starts block held count out = refl
 
--- ---- memory without the room
+-- ---- the memory lent for a cut line, and how a call ended
 
 module _ (block held : List ℕ) (count : ℕ) (out : List ℕ) where
-  module _ (n : holds held count ≡ false) where
+  -- what the end of the input hands back
+  last-of : Put → Last
+  last-of p = record { used = p .used; outcome = memory-outcome held count (how-ended (p .fits)) }
+
+  module _ (n : holds held count ≡ false) (o : Outcome) (h : (x : Outcome) → memory-outcome held count x ≡ o) where
     stays : stream-fed block held count out ≡ stuck held count out
     unfolding stream-fed
     stays = rw n refl
 
-    pub stuck-told : _≡_ {A = Fed} (record { taken = 0; count = count; used = 0 }) (told (stream-fed block held count out))
-    unfolding told stuck
-    stuck-told = ap told (sym stays)
+    pub stuck-told : _≡_ {A = Fed} (record { taken = 0; count = count; used = 0; outcome = o }) (feed-told block held count out)
+    unfolding feed-told feed-as stuck
+    stuck-told =
+        ap (λ (x : Outcome). record { taken = 0; count = count; used = 0; outcome = x }) (sym (h (how-ended (eqb 0 (length block)))))
+        ∙ ap (feed-as block held count) (sym stays)
 
     pub stuck-held : held ≡ held-of (stream-fed block held count out)
     unfolding held-of stuck
@@ -278,33 +288,58 @@ module _ (block held : List ℕ) (count : ℕ) (out : List ℕ) where
     unfolding last-line
     no-last = rw n refl
 
-    pub unheld-told : _≡_ {A = Put} (record { fits = false; used = 0 }) (finished held count out)
+    unfinished : finished held count out ≡ record { fits = holds held count; used = 0 }
     unfolding finished
-    unheld-told = rw (no-last, n) refl
+    unfinished = rw no-last refl
+
+    pub unheld-told : _≡_ {A = Last} (record { used = 0; outcome = o }) (finish-told held count out)
+    unfolding finish-told last-of
+    unheld-told = ap (λ (x : Outcome). record { used = 0; outcome = x }) (sym (h (how-ended (holds held count)))) ∙ ap last-of (sym unfinished)
 
     pub unheld-written : out ≡ finish-written held count out
     unfolding finish-written
     unheld-written = rw no-last refl
 
-  pub short-held : length held < 16385 → holds held count ≡ false
-  unfolding holds
-  short-held h = rw (lt-leb 16385 (length held) h) refl
+  module _ (h : length held < 16385) where
+    pub short-held : holds held count ≡ false
+    unfolding holds
+    short-held = rw (lt-leb 16385 (length held) h) refl
 
-  pub much-held : 16385 ≤ length held → 16385 < count → holds held count ≡ false
-  unfolding holds
-  much-held h c = rw (le-leb 16385 (length held) h, lt-leb count 16385 c) refl
+    pub short-ends : (x : Outcome) → memory-outcome held count x ≡ Unheld
+    unfolding memory-outcome
+    short-ends x = rw (lt-leb 16385 (length held) h) refl
+
+  module _ (h : 16385 ≤ length held) (c : 16385 < count) where
+    pub much-held : holds held count ≡ false
+    unfolding holds
+    much-held = rw (le-leb 16385 (length held) h, lt-leb count 16385 c) refl
+
+    pub much-ends : (x : Outcome) → memory-outcome held count x ≡ Miscounted
+    unfolding memory-outcome
+    much-ends x = rw (le-leb 16385 (length held) h, lt-leb count 16385 c) refl
 
   module _ (h : 16385 ≤ length held) (c : count ≤ 16385) where
     room : holds held count ≡ true
     unfolding holds
     room = rw (le-leb 16385 (length held) h, le-leb count 16385 c) refl
 
-    is-fed : stream-fed block held count out ≡ fed block held count out
+    pub ends-as : (x : Outcome) → memory-outcome held count x ≡ x
+    unfolding memory-outcome
+    ends-as x = rw (le-leb 16385 (length held) h, le-leb count 16385 c) refl
+
+    pub is-fed : stream-fed block held count out ≡ fed block held count out
     unfolding stream-fed
     is-fed = rw room refl
 
-    pub fed-told : (x : Fed) → x ≡ told (fed block held count out) → x ≡ told (stream-fed block held count out)
-    fed-told x q = q ∙ ap told (sym is-fed)
+    fed-as : (s : Feed) (t : Taken) (w : Outcome) → t ≡ told s → w ≡ how-ended (eqb (t .at) (length block))
+        → _≡_ {A = Fed} (record { taken = t .at; count = t .count; used = t .used; outcome = w }) (feed-as block held count s)
+    unfolding told feed-as
+    fed-as s t w p q = rw (q, p, ends-as (how-ended (eqb (s .at) (length block)))) refl
+
+    pub fed-told : (t : Taken) (w : Outcome) → t ≡ told (fed block held count out) → w ≡ how-ended (eqb (t .at) (length block))
+        → _≡_ {A = Fed} (record { taken = t .at; count = t .count; used = t .used; outcome = w }) (feed-told block held count out)
+    unfolding feed-told
+    fed-told t w p q = fed-as (fed block held count out) t w p q ∙ ap (feed-as block held count) (sym is-fed)
 
     pub fed-held : (x : List ℕ) → x ≡ held-of (fed block held count out) → x ≡ held-of (stream-fed block held count out)
     fed-held x q = q ∙ ap held-of (sym is-fed)
@@ -317,9 +352,13 @@ module _ (block held : List ℕ) (count : ℕ) (out : List ℕ) where
       unfolding last-line
       none-last = rw (room, z) refl
 
-      pub none-told : _≡_ {A = Put} (record { fits = true; used = 0 }) (finished held count out)
+      none-there : finished held count out ≡ record { fits = true; used = 0 }
       unfolding finished
-      none-told = rw (none-last, room) refl
+      none-there = rw (none-last, room) refl
+
+      pub none-told : _≡_ {A = Last} (record { used = 0; outcome = Whole }) (finish-told held count out)
+      unfolding finish-told last-of how-ended
+      none-told = ap (λ (x : Outcome). record { used = 0; outcome = x }) (sym (ends-as Whole)) ∙ ap last-of (sym none-there)
 
       pub none-written : out ≡ finish-written held count out
       unfolding finish-written
@@ -334,9 +373,16 @@ module _ (block held : List ℕ) (count : ℕ) (out : List ℕ) where
           some zero f = absurd (f refl)
           some (suc n) f = omega arith
 
-      pub last-told : (x : Put) → x ≡ answer-put (take count held) out 0 → x ≡ finished held count out
+      last-there : finished held count out ≡ answer-put (take count held) out 0
       unfolding finished
-      last-told x q = rw some-last q
+      last-there = rw some-last refl
+
+      pub last-told : (p : Put) (w : Outcome) → p ≡ answer-put (take count held) out 0 → w ≡ how-ended (p .fits)
+          → _≡_ {A = Last} (record { used = p .used; outcome = w }) (finish-told held count out)
+      unfolding finish-told last-of
+      last-told p w e q =
+          ap (λ (x : Outcome). record { used = p .used; outcome = x }) (q ∙ sym (ends-as (how-ended (p .fits))))
+          ∙ ap last-of (e ∙ sym last-there)
 
       pub last-written : (x : List ℕ) → x ≡ put-written (take count held) out 0 → x ≡ finish-written held count out
       unfolding finish-written

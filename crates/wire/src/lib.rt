@@ -9,6 +9,7 @@ ghost use Rattle.streaming.specs.Feeding;
 ghost use Rattle.wire.specs.Wire;
 use answering::Answered;
 use streaming::Next;
+use streaming::Outcome;
 
 // Whether an answer fitted the lent bytes, and how many are used then.
 pub struct Put {
@@ -17,10 +18,24 @@ pub struct Put {
 }
 
 // How many bytes of a block are taken, how many of a cut line are held, and how many bytes of the output are used.
+pub struct Taken {
+    pub at: usize,
+    pub count: usize,
+    pub used: usize,
+}
+
+// The same, and how the call ended.
 pub struct Fed {
     pub taken: usize,
     pub count: usize,
     pub used: usize,
+    pub outcome: Outcome,
+}
+
+// At the end of the input: how many bytes of the output are used, and how the call ended.
+pub struct Last {
+    pub used: usize,
+    pub outcome: Outcome,
 }
 
 // One line of a block; `more` where the next one may follow.
@@ -179,10 +194,10 @@ pub(crate) fn feed_line<'a>(
     }
 }
 
-// The lines of a block, until it is taken or an answer does not fit the output. `count` bytes of a cut line are held. Where the memory lent for them has not
-// the room, nothing is taken.
+// The lines of a block, until it is taken or an answer does not fit the output; `count` bytes of a cut line are held. A call of 16,385 bytes of output takes at
+// least one line or the whole block. Where the memory lent for a cut line has not the room, or the count is none that a call hands back, nothing is changed.
 pub fn feed<'a>(block: &'a [u8], held: &'a mut [u8], count: usize, out: &'a mut [u8]) -> Fed
-    ensures told { λ r. ⌜ r ≡ Wire.told (Wire.stream-fed (now (block .entry)) (now (held .entry)) count (now (out .entry))) ⌝ }
+    ensures told { λ r. ⌜ r ≡ Wire.feed-told (now (block .entry)) (now (held .entry)) count (now (out .entry)) ⌝ }
     ensures held { λ _. ⌜ now (held .exit) ≡ Wire.held-of (Wire.stream-fed (now (block .entry)) (now (held .entry)) count (now (out .entry))) ⌝ }
     ensures written { λ _. ⌜ now (out .exit) ≡ Wire.out-of (Wire.stream-fed (now (block .entry)) (now (held .entry)) count (now (out .entry))) ⌝ }
 {
@@ -191,6 +206,7 @@ pub fn feed<'a>(block: &'a [u8], held: &'a mut [u8], count: usize, out: &'a mut 
             taken: 0,
             count: count,
             used: 0,
+            outcome: Outcome::Unheld,
         };
     }
     if 16385 < count {
@@ -198,11 +214,18 @@ pub fn feed<'a>(block: &'a [u8], held: &'a mut [u8], count: usize, out: &'a mut 
             taken: 0,
             count: count,
             used: 0,
+            outcome: Outcome::Miscounted,
         };
     }
     let mut lengths = [0usize; 999];
     let mut coordinates = [0.0; 962];
-    feed_lines(block, held, count, &mut lengths, &mut coordinates, out)
+    let t = feed_lines(block, held, count, &mut lengths, &mut coordinates, out);
+    Fed {
+        taken: t.at,
+        count: t.count,
+        used: t.used,
+        outcome: streaming::how_ended(t.at == block.len()),
+    }
 }
 
 // The same with memory for a line's numbers.
@@ -213,7 +236,7 @@ pub(crate) fn feed_lines<'a>(
     lengths: &'a mut [usize],
     coordinates: &'a mut [f64],
     out: &'a mut [u8],
-) -> Fed
+) -> Taken
     requires { ⌜ 999 ≤ length (now lengths) ⌝ }
     requires { ⌜ 962 ≤ length (now coordinates) ⌝ }
     requires { ⌜ 16385 ≤ length (now held) ⌝ }
@@ -236,37 +259,41 @@ pub(crate) fn feed_lines<'a>(
             break;
         }
     }
-    Fed {
-        taken: at,
+    Taken {
+        at: at,
         count: have,
         used: used,
     }
 }
 
-// The end of the input: a line that has a byte is answered.
-pub fn finish<'a>(held: &'a [u8], count: usize, out: &'a mut [u8]) -> Put
-    ensures told { λ r. ⌜ r ≡ Wire.finished (now (held .entry)) count (now (out .entry)) ⌝ }
+// The end of the input: a line that has a byte is answered. 16,385 bytes of output are always enough.
+pub fn finish<'a>(held: &'a [u8], count: usize, out: &'a mut [u8]) -> Last
+    ensures told { λ r. ⌜ r ≡ Wire.finish-told (now (held .entry)) count (now (out .entry)) ⌝ }
     ensures written { λ _. ⌜ now (out .exit) ≡ Wire.finish-written (now (held .entry)) count (now (out .entry)) ⌝ }
 {
     if held.len() < 16385 {
-        return Put {
-            fits: false,
+        return Last {
             used: 0,
+            outcome: Outcome::Unheld,
         };
     }
     if 16385 < count {
-        return Put {
-            fits: false,
+        return Last {
             used: 0,
+            outcome: Outcome::Miscounted,
         };
     }
     if count == 0 {
-        return Put {
-            fits: true,
+        return Last {
             used: 0,
+            outcome: Outcome::Whole,
         };
     }
     let mut lengths = [0usize; 999];
     let mut coordinates = [0.0; 962];
-    put_answer(&held[..count], &mut lengths, &mut coordinates, out, 0)
+    let p = put_answer(&held[..count], &mut lengths, &mut coordinates, out, 0);
+    Last {
+        used: p.used,
+        outcome: streaming::how_ended(p.fits),
+    }
 }
