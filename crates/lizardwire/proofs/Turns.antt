@@ -89,7 +89,7 @@ last-used : (held : List ℕ) (count : ℕ) (out : List ℕ) (x : Last) → x �
 unfolding finish-told finished
 last-used held count out x e = subst (λ (y : Last). y .used ≤ length out) (sym e) (go (last-line held count))
   where
-    go : (t : Bool) → (cond t (answer-put (take count held) out 0) (record { fits = holds held count; used = 0 })) .used ≤ length out
+    go : (t : Bool) → (cond t (answer-put (take count held) out 0) (record { fits = holds held count; used = 0; needed = 0 })) .used ≤ length out
     go true = put-in (take count held) out
     go false = omega arith
 

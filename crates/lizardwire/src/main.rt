@@ -1,11 +1,12 @@
 // Job lines on standard input, one answer line a job on standard output.
 ghost use Prim.Native.Nat.{_≤_};
 ghost use mathlib.Core.Path.{_≡_};
-ghost use lib.ListN.{length, drop};
+ghost use lib.ListN.{length};
 ghost use Rattle.wire.specs.Wire;
 ghost use Rattle.lizardwire.specs.Program;
 
-// After a turn over a block: how many of its bytes are taken, how many of a cut line are held, and how many bytes of the output are to be written.
+// After a turn over a block: how many of its bytes are taken, how many of a cut line are held, and how many bytes of the output are to be
+// written.
 struct Turn {
     at: usize,
     count: usize,
@@ -68,9 +69,9 @@ fn next_turn<'a>(
     out: &'a mut [u8],
 ) -> Turn
     requires { ⌜ at ≤ length (now block) ⌝ }
-    ensures told { λ r. ⌜ r ≡ Program.turn-told at (Wire.stream-fed (drop at (now (block .entry))) (now (held .entry)) count (now (out .entry))) ⌝ }
-    ensures held { λ _. ⌜ now (held .exit) ≡ Wire.held-of (Wire.stream-fed (drop at (now (block .entry))) (now (held .entry)) count (now (out .entry))) ⌝ }
-    ensures written { λ _. ⌜ now (out .exit) ≡ Wire.out-of (Wire.stream-fed (drop at (now (block .entry))) (now (held .entry)) count (now (out .entry))) ⌝ }
+    ensures told { λ r. ⌜ r ≡ Program.turn-told at (Program.turn-fed (now (block .entry)) at (now (held .entry)) count (now (out .entry))) ⌝ }
+    ensures held { λ _. ⌜ now (held .exit) ≡ Wire.held-of (Program.turn-fed (now (block .entry)) at (now (held .entry)) count (now (out .entry))) ⌝ }
+    ensures written { λ _. ⌜ now (out .exit) ≡ Wire.out-of (Program.turn-fed (now (block .entry)) at (now (held .entry)) count (now (out .entry))) ⌝ }
 {
     let fed = wire::feed(&block[at..], held, count, out);
     Turn {

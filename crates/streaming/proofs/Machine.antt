@@ -158,9 +158,9 @@ module _ (block held₀ : List ℕ) (count₀ : ℕ) (out₀ : List ℕ) (r : mo
   unfolding feed-cut next-held next-count
   cut-keeps e = rw e (record { taken = end-le; most = part-most (s .count) (line-part block (s .at)) (f .most); room = held-size (line-part block (s .at)); used = f .used; size = f .size; same = held-end })
 
-  full-keeps : Fed block held₀ count₀ out₀ (feed-full block s)
+  full-keeps : (bytes : List ℕ) → Fed block held₀ count₀ out₀ (feed-full block s bytes)
   unfolding feed-full next-held next-count
-  full-keeps = go (is-direct block (s .at) (s .count))
+  full-keeps bytes = go (is-direct block (s .at) (s .count))
     where
       go : (t : Bool) → Fed block held₀ count₀ out₀ (record {
         at = cond t (s .at) (line-end block (s .at));
@@ -168,6 +168,7 @@ module _ (block held₀ : List ℕ) (count₀ : ℕ) (out₀ : List ℕ) (r : mo
         count = cond t (s .count) (count-with (s .count) (line-part block (s .at)));
         out = s .out;
         used = s .used;
+        needed = length bytes;
         more = false;
       })
       go true = record { taken = f .taken; most = f .most; room = f .room; used = f .used; size = f .size; same = f .same }
@@ -249,9 +250,9 @@ module _ (block held₀ : List ℕ) (count₀ : ℕ) (out₀ : List ℕ) (r : mo
     ended-keeps = go (answered (next-bytes block (s .at) (s .held) (s .count))) refl (leb (s .used + length (answered (next-bytes block (s .at) (s .held) (s .count)))) (length (s .out))) refl
       where
         go : (bytes : List ℕ) → bytes ≡ answered (next-bytes block (s .at) (s .held) (s .count)) → (t : Bool) → leb (s .used + length bytes) (length (s .out)) ≡ t
-            → Fed block held₀ count₀ out₀ (cond t (feed-answered block s bytes) (feed-full block s))
+            → Fed block held₀ count₀ out₀ (cond t (feed-answered block s bytes) (feed-full block s bytes))
         go bytes q true h = answer-keeps bytes q (leb-true (s .used + length bytes) (length (s .out)) h)
-        go bytes q false h = full-keeps
+        go bytes q false h = full-keeps bytes
 
   line-keeps : Fed block held₀ count₀ out₀ (feed-line block s)
   unfolding feed-line

@@ -18,7 +18,8 @@ use Rattle.jobs.specs.Lines.{answer-line}
 use Rattle.jobs.specs.Stream.{StreamState, stream-start, answered, answers, with-answer, byte-by, byte-taken, block-taken, joined, written, after-output}
 use Rattle.jobs.proofs.Sizes.{answer-in-line}
 use Rattle.jobs.proofs.Stream.{block-nil, block-cons, feeding-parts, cut-answer, machine-answers, output-added}
-use Rattle.streaming.specs.Feeding.{before-by, before-feed, line-end, line-part, most-held, held-with, count-with, is-ended, is-direct, next-count, next-held, next-bytes, Feed, feed-cut, feed-answered, feed-full, feed-ended, feed-line, feed-step, feed-start, fed, machine, Fed}
+use Rattle.streaming.specs.Feeding.{before-by, before-feed, line-end, line-part, is-ended, is-direct, next-count, next-held, next-bytes}
+use Rattle.streaming.specs.Feeding.{most-held, held-with, count-with, Feed, feed-cut, feed-answered, feed-full, feed-ended, feed-line, feed-step, feed-start, fed, machine, Fed}
 use Rattle.streaming.specs.Progress.{next-answer, NextUnfit, StopsFull, TakesAll, TakesALine, Turns, turned, turn, feeds-by, line-feeds, with-block, Taken, BlockTaken, block-turned, blocks-turned, turns-start, all-sent, EveryLine}
 use Rattle.streaming.proofs.Parts.{end-from}
 use Rattle.streaming.proofs.Machine.{in-line, part-taken, feed-follows, end-le, end-lt, feed-there, the-line, step-keeps, feeds, feeds-to, written-after}
@@ -56,7 +57,7 @@ module _ (block held₀ : List ℕ) (count₀ : ℕ) (out₀ : List ℕ) (r : mo
     no-part = ap (λ (n : ℕ). take n (drop (line-end block (s .at)) block)) at-feed
 
     module _ (u : length (s .out) < s .used + length (answered (next-bytes block (s .at) (s .held) (s .count)))) where
-      full-here : NextUnfit block (feed-full block s)
+      full-here : NextUnfit block (feed-full block s (answered (next-bytes block (s .at) (s .held) (s .count))))
       unfolding feed-full next-held next-count next-bytes next-answer
       full-here = go (is-direct block (s .at) (s .count)) refl
         where
@@ -66,12 +67,14 @@ module _ (block held₀ : List ℕ) (count₀ : ℕ) (out₀ : List ℕ) (r : mo
             count = cond t (s .count) (count-with (s .count) (line-part block (s .at)));
             out = s .out;
             used = s .used;
+            needed = length (answered (next-bytes block (s .at) (s .held) (s .count)));
             more = false;
           })
-          go true d = record { ahead = e; unfit = subst (λ (l : List ℕ). length (s .out) < s .used + length l) same-answer u }
+          go true d = record { ahead = e; needed = ap length same-answer; unfit = subst (λ (l : List ℕ). length (s .out) < s .used + length l) same-answer u }
           go false d =
               record {
                 ahead = still-ended;
+                needed = ap length held-answer;
                 unfit = subst (λ (l : List ℕ). length (s .out) < s .used + length l) held-answer u;
               }
             where
@@ -91,9 +94,10 @@ one-answered : (block : List ℕ) (k : ℕ) (s : Feed) (bytes : List ℕ) → su
 unfolding feed-answered
 one-answered block k s bytes h = h
 
-one-full : (block : List ℕ) (k : ℕ) (s : Feed) → NextUnfit block (feed-full block s) → Going block (suc k) (feed-full block s) ((feed-full block s) .more)
+one-full : (block : List ℕ) (k : ℕ) (s : Feed) (bytes : List ℕ) → NextUnfit block (feed-full block s bytes)
+    → Going block (suc k) (feed-full block s bytes) ((feed-full block s bytes) .more)
 unfolding feed-full
-one-full block k s h = inr h
+one-full block k s bytes h = inr h
 
 one-cut : (block : List ℕ) (k : ℕ) (s : Feed) → line-end block (s .at) ≡ length block → Going block (suc k) (feed-cut block s) ((feed-cut block s) .more)
 unfolding feed-cut
@@ -109,11 +113,12 @@ module _ (block held : List ℕ) (count : ℕ) (out : List ℕ) (r : most-held �
       past x y z h p = omega arith
 
       go : (t : Bool) → leb (s .used + length bytes) (length (s .out)) ≡ t
-          → Going block (suc k) (cond t (feed-answered block s bytes) (feed-full block s)) ((cond t (feed-answered block s bytes) (feed-full block s)) .more)
+          → Going block (suc k) (cond t (feed-answered block s bytes) (feed-full block s bytes)) ((cond t (feed-answered block s bytes) (feed-full block s bytes)) .more)
       go true h = one-answered block k s bytes (past k (s .at) (line-end block (s .at)) g (end-from block (s .at)))
       go false h =
-          one-full block k s (full-here block held count out r s f e
-          (subst (λ (l : List ℕ). length (s .out) < s .used + length l) (sym q) (leb-false (s .used + length bytes) (length (s .out)) h)))
+          one-full block k s bytes
+          (subst (λ (l : List ℕ). NextUnfit block (feed-full block s l)) q
+          (full-here block held count out r s f e (subst (λ (l : List ℕ). length (s .out) < s .used + length l) (sym q) (leb-false (s .used + length bytes) (length (s .out)) h))))
 
   line-goes : k ≤ s .at → Going block (suc k) (feed-line block s) ((feed-line block s) .more)
   unfolding feed-line
@@ -144,7 +149,7 @@ stops-full block held count out c r = go (last .more) ((feeds-to block held coun
     gone : Going block (length block + 1) last (last .more)
     gone =
         (rounds-keep (feed-step block) (λ k s. Fed block held count out s × Going block k s (s .more)) (feed-start held count out)
-        (feeds-to block held count out c r 0, zero-le)
+        (feeds-to block held count out c r 0, le-refl 0)
         (λ k s h. (step-keeps block held count out r s (h .0) k, step-goes block held count out r k s (h .0) (h .1)))
         (length block + 1)) .1
 
@@ -239,9 +244,9 @@ answered-grows : (block : List ℕ) (s : Feed) (bytes : List ℕ) → s .at ≤ 
 unfolding feed-answered
 answered-grows block s bytes = le-trans (end-from block (s .at)) (le-add-right (line-end block (s .at)) 1)
 
-full-grows : (block : List ℕ) (s : Feed) → s .at ≤ (feed-full block s) .at
+full-grows : (block : List ℕ) (s : Feed) (bytes : List ℕ) → s .at ≤ (feed-full block s bytes) .at
 unfolding feed-full
-full-grows block s = go (is-direct block (s .at) (s .count))
+full-grows block s bytes = go (is-direct block (s .at) (s .count))
   where
     go : (t : Bool) → s .at ≤ cond t (s .at) (line-end block (s .at))
     go true = le-refl (s .at)
@@ -255,9 +260,12 @@ step-grows : (block : List ℕ) (k : ℕ) (s : Feed) → s .at ≤ (feed-step bl
 unfolding feed-step feed-line feed-ended
 step-grows block k s = go (s .more) (is-ended block (s .at)) (leb (s .used + length (answered (next-bytes block (s .at) (s .held) (s .count)))) (length (s .out)))
   where
-    go : (m t u : Bool) → s .at ≤ (cond m (cond t (cond u (feed-answered block s (answered (next-bytes block (s .at) (s .held) (s .count)))) (feed-full block s)) (feed-cut block s)) s) .at
-    go true true true = answered-grows block s (answered (next-bytes block (s .at) (s .held) (s .count)))
-    go true true false = full-grows block s
+    bytes : List ℕ
+    bytes = answered (next-bytes block (s .at) (s .held) (s .count))
+
+    go : (m t u : Bool) → s .at ≤ (cond m (cond t (cond u (feed-answered block s bytes) (feed-full block s bytes)) (feed-cut block s)) s) .at
+    go true true true = answered-grows block s bytes
+    go true true false = full-grows block s bytes
     go true false u = cut-grows block s
     go false t u = le-refl (s .at)
 

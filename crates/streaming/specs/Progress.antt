@@ -1,6 +1,6 @@
--- That the stream goes on: a call stops before the block's end only where the next answer does not fit its output, and with 16,385 bytes of output each call
--- takes a line or all that is left, because no answer line has more than 16,384 bytes (`AnswerInLine`). So a loop of calls takes every block that is read, and
--- every line is answered. Proved in `proofs/Progress.antt`. Assumes nothing.
+-- That the stream goes on: a call stops before the block's end only where the next answer does not fit its output, and with 16,385 bytes of
+-- output each call takes a line or all that is left, because no answer line has more than 16,384 bytes (`AnswerInLine`). So a loop of calls
+-- takes every block that is read, and every line is answered. Proved in `proofs/Progress.antt`. Assumes nothing.
 use Prim.Native.Nat.{ℕ, suc, _+_, _≤_, _<_}
 use mathlib.Core.Bool.{Bool, true, false}
 use mathlib.Core.Logic.{_⊎_}
@@ -19,9 +19,10 @@ use Rattle.streaming.specs.Feeding.{before-feed, line-part, is-ended, mo
 unfoldable pub next-answer : List ℕ → Feed → List ℕ
 next-answer block s = answered (take (s .count) (s .held) ++ line-part block (s .at))
 
--- an LF is ahead in the block, and the answer of the line that it ends does not fit what is left of the output
+-- an LF is ahead in the block, and the answer of the line that it ends, whose bytes are told, does not fit what is left of the output
 pub record NextUnfit (block : List ℕ) (s : Feed) : Type 0 where
   pub ahead : is-ended block (s .at) ≡ true
+  pub needed : s .needed ≡ length (next-answer block s)
   pub unfit : length (s .out) < s .used + length (next-answer block s)
 
 -- A call takes its whole block, or stops there.
@@ -56,7 +57,8 @@ pub record Turns : Type 0 where
   pub sent : List ℕ
 
 unfoldable pub turned : Turns → Feed → Turns
-turned t s = record { rest = drop (s .at) (t .rest); held = s .held; count = s .count; out = s .out; sent = t .sent ++ take (s .used) (s .out) }
+turned t s =
+    record { rest = drop (s .at) (t .rest); held = s .held; count = s .count; out = s .out; sent = t .sent ++ take (s .used) (s .out) }
 
 unfoldable pub turn : ℕ → Turns → Turns
 turn k t = turned t (fed (t .rest) (t .held) (t .count) (t .out))
@@ -85,8 +87,8 @@ pub record Taken (t : Turns) (block : List ℕ) (u : Turns) : Type 0 where
 -- After one call a line that ends in it, and one more, no byte of a block is left.
 abbrev pub BlockTaken : Type 0
 BlockTaken =
-    (t : Turns) (block : List ℕ) (n : ℕ) → t .count ≤ most-held → most-held ≤ length (t .held) → enough-output ≤ length (t .out) → line-feeds block + 1 ≤ n
-    → Taken t block (rounds turn n (with-block t block))
+    (t : Turns) (block : List ℕ) (n : ℕ) → t .count ≤ most-held → most-held ≤ length (t .held) → enough-output ≤ length (t .out)
+    → line-feeds block + 1 ≤ n → Taken t block (rounds turn n (with-block t block))
 
 -- ---- the program: block after block, and then the end of the input
 

@@ -15,7 +15,7 @@ use Rattle.digits.proofs.Puts.{put-front}
 use Rattle.jobs.specs.Stream.{StreamState, answered, with-answer, ended-by, written}
 use Rattle.jobs.proofs.Walks.{and-left, and-right}
 use Rattle.streaming.specs.Feeding.{line-end, is-ended, most-held, Feed, machine, fed, how-ended}
-use Rattle.streaming.specs.Progress.{NextUnfit}
+use Rattle.streaming.specs.Progress.{next-answer, NextUnfit}
 use Rattle.streaming.specs.declared.Outcome.the-variants.{Whole, Full}
 use Rattle.streaming.proofs.Parts.{end-from}
 use Rattle.streaming.proofs.Progress.{answered-room, stops-full}
@@ -70,8 +70,8 @@ pub finishes-fitting : FinishesFitting
 unfolding finished finish-written finish-told
 finishes-fitting held count out h f = go (last-line held count) refl f
   where
-    go : (t : Bool) → last-line held count ≡ t → (cond t (answer-put (take count held) out 0) (record { fits = holds held count; used = 0 })) .fits ≡ true
-        → take ((cond t (answer-put (take count held) out 0) (record { fits = holds held count; used = 0 })) .used) (cond t (put-written (take count held) out 0) out) ≡ written (machine held count [])
+    go : (t : Bool) → last-line held count ≡ t → (cond t (answer-put (take count held) out 0) (record { fits = holds held count; used = 0; needed = 0 })) .fits ≡ true
+        → take ((cond t (answer-put (take count held) out 0) (record { fits = holds held count; used = 0; needed = 0 })) .used) (cond t (put-written (take count held) out 0) out) ≡ written (machine held count [])
     go true e g = put-front-line (take count held) out g ∙ sym (ended-line (take count held) (some-held held count out h e))
     go false e g = sym (ap (λ (n : ℕ). written (machine held n [])) (none-held held count out h e) ∙ no-line)
 
@@ -86,7 +86,7 @@ finish-fits : (held : List ℕ) (count : ℕ) (out : List ℕ) → holds held co
 unfolding finished
 finish-fits held count out h o = go (last-line held count)
   where
-    go : (t : Bool) → (cond t (answer-put (take count held) out 0) (record { fits = holds held count; used = 0 })) .fits ≡ true
+    go : (t : Bool) → (cond t (answer-put (take count held) out 0) (record { fits = holds held count; used = 0; needed = 0 })) .fits ≡ true
     go true = always-fits (take count held) out o
     go false = h
 
@@ -103,7 +103,7 @@ pub finishes : Finishes
 unfolding finish-told how-ended
 finishes held count out h o =
     let f = finish-fits held count out h o in
-    (ends-as [] held count out (held-room held count h) (held-most held count h) _ ∙ ap how-ended f, finishes-fitting held count out h f)
+    (ends-as [] held count out (held-room held count h) (held-most held count h) _ ∙ ap (λ (t : Bool). how-ended t ((finished held count out) .needed)) f, finishes-fitting held count out h f)
 
 -- ---- how a call ended
 
@@ -114,15 +114,15 @@ in-block block at e = ltb-true (line-end block at) (length block) e
 module _ (block held : List ℕ) (count : ℕ) (out : List ℕ) where
   enough-ends : holds held count ≡ true
       → ((feed-told block held count out) .outcome ≡ Whole × (feed-told block held count out) .taken ≡ length block)
-      ⊎ ((feed-told block held count out) .outcome ≡ Full × NextUnfit block (fed block held count out))
+      ⊎ ((feed-told block held count out) .outcome ≡ Full (length (next-answer block (fed block held count out))) × NextUnfit block (fed block held count out))
   unfolding feed-told feed-as how-ended
   enough-ends h = go (stops-full block held count out (held-most held count h) (held-room held count h))
     where
       same : stream-fed block held count out ≡ fed block held count out
       same = is-fed block held count out (held-room held count h) (held-most held count h)
 
-      ends : (t : Bool) → eqb ((stream-fed block held count out) .at) (length block) ≡ t → (feed-told block held count out) .outcome ≡ how-ended t
-      ends t e = ends-as block held count out (held-room held count h) (held-most held count h) _ ∙ ap how-ended e
+      ends : (t : Bool) → eqb ((stream-fed block held count out) .at) (length block) ≡ t → (feed-told block held count out) .outcome ≡ how-ended t ((stream-fed block held count out) .needed)
+      ends t e = ends-as block held count out (held-room held count h) (held-most held count h) _ ∙ ap (λ (u : Bool). how-ended u ((stream-fed block held count out) .needed)) e
 
       -- an LF that is ahead is in the block
       ahead : NextUnfit block (fed block held count out) → (fed block held count out) .at ≡ length block → ⊥
@@ -133,9 +133,10 @@ module _ (block held : List ℕ) (count : ℕ) (out : List ℕ) where
 
       go : ((fed block held count out) .at ≡ length block) ⊎ NextUnfit block (fed block held count out)
           → ((feed-told block held count out) .outcome ≡ Whole × (feed-told block held count out) .taken ≡ length block)
-          ⊎ ((feed-told block held count out) .outcome ≡ Full × NextUnfit block (fed block held count out))
+          ⊎ ((feed-told block held count out) .outcome ≡ Full (length (next-answer block (fed block held count out))) × NextUnfit block (fed block held count out))
       go (inl e) = let w = ap (λ (s : Feed). s .at) same ∙ e in inl (ends true (eq-eqb _ _ w), w)
-      go (inr u) = inr (ends false (ne-eqb _ _ (λ w. ahead u (sym (ap (λ (s : Feed). s .at) same) ∙ w))), u)
+      go (inr u) =
+          inr (ends false (ne-eqb _ _ (λ w. ahead u (sym (ap (λ (s : Feed). s .at) same) ∙ w))) ∙ ap Full (ap (λ (s : Feed). s .needed) same ∙ u .needed), u)
 
 pub ends-apart : EndsApart
 unfolding feed-told feed-as

@@ -65,7 +65,9 @@ loop-less c =
     let l = c .before .before .before .before .before .before .before .before .before .before .before .loop in
     let i = l .inv in
     let e = c .before .before .before .before .before .before .before .next-turn .ensures in
-    less-left (l .at) _ (length (now (a .block))) (turn-goes (now (a .block)) (now (a .held)) (a .count) (l .at) (l .held) (l .have) (l .out) (i .2) (i .3) (i .4) _ _ _ (e .0) (e .1 .0) (e .1 .1) (i .5) (c .before .before .before .before .before .before .before .before .before .before .loop-test .taken)) (c .before .before .before .before .before .before .before .before .before .before .loop-test .taken)
+    let b = c .before .before .before .before .before .before .before .before .before .before .loop-test .taken in
+    let g = turn-goes (now (a .block)) (now (a .held)) (a .count) (l .at) (l .held) (l .have) (l .out) (i .2) (i .3) (i .4) _ _ _ (e .0) (e .1 .0) (e .1 .1) (i .5) b in
+    less-left (l .at) _ (length (now (a .block))) g b
 
 loop-again : tie.Need-loop-again Inv-loop μ-loop
 loop-again c =

@@ -20,7 +20,8 @@ feed-requires c κs = search needs
 add-t8 : tie.Need-add-t8
 add-t8 c =
     let a = c .before .before .before .before .before .before .before .before .before .before .before .before .args in
-    let m = turn-fits (now (a .block)) (a .at) (now (a .held)) (a .count) (now (a .out)) _ (c .before .before .before .before .before .feed .ensures .0) (c .before .before .before .before .before .before .before .before .before .before .before .before .pre) in
+    let p = c .before .before .before .before .before .before .before .before .before .before .before .before .pre in
+    let m = turn-fits (now (a .block)) (a .at) (now (a .held)) (a .count) (now (a .out)) _ (c .before .before .before .before .before .feed .ensures .0) p in
     search needs
 
 same-length : tie.Need-same-length
