@@ -1,5 +1,17 @@
 // Job lines on standard input, one answer line a job on standard output.
 ghost use Prim.Native.Nat.{_≤_};
+ghost use mathlib.Core.Path.{_≡_};
+ghost use lib.ListN.{length};
+ghost use Rattle.wire.specs.Wire;
+ghost use Rattle.lizardwire.specs.Program;
+
+// After a turn over a block: how many of its bytes are taken, how many of a cut line are held, and how many bytes of the output are to be
+// written.
+struct Turn {
+    at: usize,
+    count: usize,
+    used: usize,
+}
 
 // The bytes of a cut line that are held, whether there is more input, and whether a read or a write failed.
 struct Run {
@@ -48,73 +60,74 @@ fn say_failed() {
     );
 }
 
-// How many turns are left: none where all is done.
-fn turns_left(done: bool, turns: usize) -> usize
-    ensures { λ r. ⌜ r ≤ turns ⌝ }
+// One turn of the loop over a block: the lines from `at` on, as many as have their answers in the output.
+fn next_turn<'a>(
+    block: &'a [u8],
+    at: usize,
+    held: &'a mut [u8],
+    count: usize,
+    out: &'a mut [u8],
+) -> Turn
+    requires { ⌜ at ≤ length (now block) ⌝ }
+    ensures told { λ r. ⌜ r ≡ Program.turn-told at (Program.turn-fed (now (block .entry)) at (now (held .entry)) count (now (out .entry))) ⌝ }
+    ensures held { λ _. ⌜ now (held .exit) ≡ Wire.held-of (Program.turn-fed (now (block .entry)) at (now (held .entry)) count (now (out .entry))) ⌝ }
+    ensures written { λ _. ⌜ now (out .exit) ≡ Wire.out-of (Program.turn-fed (now (block .entry)) at (now (held .entry)) count (now (out .entry))) ⌝ }
 {
-    if done { 0 } else { turns }
+    let fed = wire::feed(&block[at..], held, count, out);
+    Turn {
+        at: at + fed.taken,
+        count: fed.count,
+        used: fed.used,
+    }
 }
 
-// The block's lines; what is answered is written whenever the output is full. A proved loop has to end: its turns are at most the block's bytes.
-fn feed_block<'a>(block: &'a [u8], held: &'a mut [u8], count: usize, out: &'a mut [u8]) -> Run {
+// Turn after turn, until the block is taken; the answers of each are written before the next. Each turn takes a byte at least.
+fn feed_block<'a>(block: &'a [u8], held: &'a mut [u8], count: usize, out: &'a mut [u8]) -> Run
+    requires { ⌜ 16385 ≤ length (now held) ⌝ }
+    requires { ⌜ count ≤ 16385 ⌝ }
+    requires { ⌜ 16385 ≤ length (now out) ⌝ }
+    ensures taken { λ r. ⌜ Program.BlockTaken (now (block .entry)) (now (held .entry)) count (now (held .exit)) r ⌝ }
+{
     let mut at = 0usize;
     let mut have = count;
-    let mut turns = block.len();
-    while turns > 0 {
-        let fed = wire::feed(&block[at..], held, have, out);
-        have = fed.count;
-        if out.len() < fed.used {
+    while at < block.len() {
+        let t = next_turn(block, at, held, have, out);
+        have = t.count;
+        at = t.at;
+        if !io::write_all(1, &out[..t.used]) {
             return Run {
                 count: have,
                 more: false,
                 failed: true,
             };
         }
-        if !io::write_all(1, &out[..fed.used]) {
-            return Run {
-                count: have,
-                more: false,
-                failed: true,
-            };
-        }
-        if block.len() - at < fed.taken {
-            return Run {
-                count: have,
-                more: false,
-                failed: true,
-            };
-        }
-        at += fed.taken;
-        turns = turns_left(at == block.len(), turns - 1);
     }
     Run {
         count: have,
         more: true,
-        failed: at < block.len(),
+        failed: false,
     }
 }
 
 // The end of the input: a last line without LF is answered.
-fn end_input<'a>(held: &'a [u8], count: usize, out: &'a mut [u8]) -> Run {
-    let put = wire::finish(held, count, out);
-    if put.fits {
-        if put.used <= out.len() {
-            return Run {
-                count: 0,
-                more: false,
-                failed: !io::write_all(1, &out[..put.used]),
-            };
-        }
-    }
+fn end_input<'a>(held: &'a [u8], count: usize, out: &'a mut [u8]) -> Run
+    ensures { λ r. ⌜ r .count ≡ 0 ⌝ }
+{
+    let last = wire::finish(held, count, out);
     Run {
         count: 0,
         more: false,
-        failed: true,
+        failed: !io::write_all(1, &out[..last.used]),
     }
 }
 
 // Reads once; `more` is false at the end of the input.
-fn read_some<'a>(block: &'a mut [u8], held: &'a mut [u8], count: usize, out: &'a mut [u8]) -> Run {
+fn read_some<'a>(block: &'a mut [u8], held: &'a mut [u8], count: usize, out: &'a mut [u8]) -> Run
+    requires { ⌜ 16385 ≤ length (now held) ⌝ }
+    requires { ⌜ count ≤ 16385 ⌝ }
+    requires { ⌜ 16385 ≤ length (now out) ⌝ }
+    ensures { λ r. ⌜ r .count ≤ 16385 ⌝ }
+{
     let got = libc::read(0, block);
     if got < 0 {
         return Run {
@@ -131,7 +144,10 @@ fn read_some<'a>(block: &'a mut [u8], held: &'a mut [u8], count: usize, out: &'a
 }
 
 // A proved loop has to end: it counts its turns down, from a number that no run uses up.
-fn read_all<'a>(block: &'a mut [u8], held: &'a mut [u8], out: &'a mut [u8]) -> bool {
+fn read_all<'a>(block: &'a mut [u8], held: &'a mut [u8], out: &'a mut [u8]) -> bool
+    requires { ⌜ 16385 ≤ length (now held) ⌝ }
+    requires { ⌜ 16385 ≤ length (now out) ⌝ }
+{
     let mut count = 0usize;
     let mut turns = u64::MAX;
     while turns > 0 {

@@ -33,7 +33,7 @@ before-le [] = le-refl 0
 before-le (b ∷ bytes) = before-by-le (eqb b line-feed) (before-feed bytes) (length bytes) (before-le bytes)
 
 -- the machine after the first bytes of a line
-abbrev in-line : List ℕ → List ℕ → StreamState
+abbrev pub in-line : List ℕ → List ℕ → StreamState
 in-line line output = record { line = take most-held line; output = output }
 
 -- bytes without LF are added to the line
@@ -49,7 +49,7 @@ one-by false b bytes line output e ih =
     ∙ ih (line ++ b ∷ [])
     ∙ ap (λ (l : List ℕ). in-line l output) (append-assoc line (b ∷ []) (take (before-feed bytes) bytes))
 
-part-taken : (bytes line output : List ℕ) → block-taken (in-line line output) (take (before-feed bytes) bytes) ≡ in-line (line ++ take (before-feed bytes) bytes) output
+pub part-taken : (bytes line output : List ℕ) → block-taken (in-line line output) (take (before-feed bytes) bytes) ≡ in-line (line ++ take (before-feed bytes) bytes) output
 unfolding before-feed
 part-taken [] line output = block-nil (in-line line output) ∙ ap (λ (l : List ℕ). in-line l output) (sym (append-nil line))
 part-taken (b ∷ bytes) line output = one-by (eqb b line-feed) b bytes line output refl (λ more. part-taken bytes more output)
@@ -65,7 +65,7 @@ feed-by false b bytes e l ih = ih (smaller (before-feed bytes) (length bytes) l)
     smaller : (x y : ℕ) → suc x < suc y → x < y
     smaller x y h = omega arith
 
-feed-follows : (bytes : List ℕ) → before-feed bytes < length bytes → drop (before-feed bytes) bytes ≡ line-feed ∷ drop (suc (before-feed bytes)) bytes
+pub feed-follows : (bytes : List ℕ) → before-feed bytes < length bytes → drop (before-feed bytes) bytes ≡ line-feed ∷ drop (suc (before-feed bytes)) bytes
 unfolding before-feed
 feed-follows [] l = absurd (none l)
   where
@@ -126,7 +126,7 @@ module _ (block held₀ : List ℕ) (count₀ : ℕ) (out₀ : List ℕ) (r : mo
   unfolding rest
   rest-size = length-drop (s .at) block
 
-  end-le : line-end block (s .at) ≤ length block
+  pub end-le : line-end block (s .at) ≤ length block
   unfolding line-end rest
   end-le = sum (s .at) (before-feed rest) (length block) (f .taken) (subst (λ (n : ℕ). before-feed rest ≤ n) rest-size (before-le rest))
     where
@@ -158,9 +158,9 @@ module _ (block held₀ : List ℕ) (count₀ : ℕ) (out₀ : List ℕ) (r : mo
   unfolding feed-cut next-held next-count
   cut-keeps e = rw e (record { taken = end-le; most = part-most (s .count) (line-part block (s .at)) (f .most); room = held-size (line-part block (s .at)); used = f .used; size = f .size; same = held-end })
 
-  full-keeps : Fed block held₀ count₀ out₀ (feed-full block s)
+  full-keeps : (bytes : List ℕ) → Fed block held₀ count₀ out₀ (feed-full block s bytes)
   unfolding feed-full next-held next-count
-  full-keeps = go (is-direct block (s .at) (s .count))
+  full-keeps bytes = go (is-direct block (s .at) (s .count))
     where
       go : (t : Bool) → Fed block held₀ count₀ out₀ (record {
         at = cond t (s .at) (line-end block (s .at));
@@ -168,18 +168,19 @@ module _ (block held₀ : List ℕ) (count₀ : ℕ) (out₀ : List ℕ) (r : mo
         count = cond t (s .count) (count-with (s .count) (line-part block (s .at)));
         out = s .out;
         used = s .used;
+        needed = length bytes;
         more = false;
       })
       go true = record { taken = f .taken; most = f .most; room = f .room; used = f .used; size = f .size; same = f .same }
       go false = record { taken = end-le; most = part-most (s .count) (line-part block (s .at)) (f .most); room = held-size (line-part block (s .at)); used = f .used; size = f .size; same = held-end }
 
   module _ (e : is-ended block (s .at) ≡ true) where
-    end-lt : line-end block (s .at) < length block
+    pub end-lt : line-end block (s .at) < length block
     unfolding is-ended
     end-lt = ltb-true (line-end block (s .at)) (length block) e
 
     -- the LF after the line
-    feed-there : drop (line-end block (s .at)) block ≡ line-feed ∷ drop (line-end block (s .at) + 1) block
+    pub feed-there : drop (line-end block (s .at)) block ≡ line-feed ∷ drop (line-end block (s .at) + 1) block
     unfolding line-end rest
     feed-there =
         sym (drop-drop (before-feed rest) (s .at) block)
@@ -195,7 +196,7 @@ module _ (block held₀ : List ℕ) (count₀ : ℕ) (out₀ : List ℕ) (r : mo
         ∙ ap (λ (l : List ℕ). take (line-end block (s .at)) block ++ take 1 l) feed-there
 
     -- the line that the machine then answers, whole or held
-    the-line : answered (take most-held (take (s .count) (s .held) ++ line-part block (s .at))) ≡ answered (next-bytes block (s .at) (s .held) (s .count))
+    pub the-line : answered (take most-held (take (s .count) (s .held) ++ line-part block (s .at))) ≡ answered (next-bytes block (s .at) (s .held) (s .count))
     unfolding next-bytes next-count next-held answered is-direct
     the-line = go (eqb (s .count) 0) refl
       where
@@ -249,9 +250,9 @@ module _ (block held₀ : List ℕ) (count₀ : ℕ) (out₀ : List ℕ) (r : mo
     ended-keeps = go (answered (next-bytes block (s .at) (s .held) (s .count))) refl (leb (s .used + length (answered (next-bytes block (s .at) (s .held) (s .count)))) (length (s .out))) refl
       where
         go : (bytes : List ℕ) → bytes ≡ answered (next-bytes block (s .at) (s .held) (s .count)) → (t : Bool) → leb (s .used + length bytes) (length (s .out)) ≡ t
-            → Fed block held₀ count₀ out₀ (cond t (feed-answered block s bytes) (feed-full block s))
+            → Fed block held₀ count₀ out₀ (cond t (feed-answered block s bytes) (feed-full block s bytes))
         go bytes q true h = answer-keeps bytes q (leb-true (s .used + length bytes) (length (s .out)) h)
-        go bytes q false h = full-keeps
+        go bytes q false h = full-keeps bytes
 
   line-keeps : Fed block held₀ count₀ out₀ (feed-line block s)
   unfolding feed-line
@@ -264,7 +265,7 @@ module _ (block held₀ : List ℕ) (count₀ : ℕ) (out₀ : List ℕ) (r : mo
       go true e = ended-keeps e
       go false e = cut-keeps (uncut e)
 
-  step-keeps : (k : ℕ) → Fed block held₀ count₀ out₀ (feed-step block k s)
+  pub step-keeps : (k : ℕ) → Fed block held₀ count₀ out₀ (feed-step block k s)
   unfolding feed-step
   step-keeps k = go (s .more)
     where
@@ -293,7 +294,7 @@ unfolding written ended-by with-answer after-output
 ended-after [] output more = refl
 ended-after (b ∷ line) output more = append-assoc output more (answered (b ∷ line))
 
-written-after : (output : List ℕ) (s : StreamState) → written (after-output output s) ≡ output ++ written s
+pub written-after : (output : List ℕ) (s : StreamState) → written (after-output output s) ≡ output ++ written s
 written-after output s = ended-after (s .line) output (s .output)
 
 calls-from : (calls : List Call) (held : List ℕ) (count : ℕ) → count ≤ most-held → most-held ≤ length held

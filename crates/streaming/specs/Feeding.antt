@@ -10,6 +10,8 @@ use Rattle.loops.specs.Loop.{rounds}
 use Rattle.digits.specs.Stores.{put}
 use Rattle.jobs.specs.Fields.{line-feed}
 use Rattle.streaming.specs.declared.Next.{Next}
+use Rattle.streaming.specs.declared.Outcome.{Outcome}
+use Rattle.streaming.specs.declared.Outcome.the-variants.{Whole, Full, Unheld, Miscounted}
 use Rattle.jobs.specs.Stream.{StreamState, answered, answers, block-taken, joined, written}
 
 -- ---- where a line ends
@@ -67,13 +69,15 @@ next-of block at count =
 
 -- ---- a block
 
--- `at` bytes of the block are taken, `used` bytes of the output written; `more` until the block is taken or an answer does not fit the output.
+-- `at` bytes of the block are taken, `used` bytes of the output written; `more` until the block is taken or an answer does not fit the output,
+-- which then has `needed` bytes with its LF.
 pub record Feed : Type 0 where
   pub at : ℕ
   pub held : List ℕ
   pub count : ℕ
   pub out : List ℕ
   pub used : ℕ
+  pub needed : ℕ
   pub more : Bool
 
 -- the block's end cuts the line
@@ -85,6 +89,7 @@ feed-cut block s =
       count = next-count block (s .at) (s .count);
       out = s .out;
       used = s .used;
+      needed = 0;
       more = false;
     }
 
@@ -97,23 +102,25 @@ feed-answered block s bytes =
       count = 0;
       out = put (s .out) (s .used) bytes;
       used = s .used + length bytes;
+      needed = 0;
       more = true;
     }
 
 -- the answer does not fit: its LF is not taken
-unfoldable pub feed-full : List ℕ → Feed → Feed
-feed-full block s =
+unfoldable pub feed-full : List ℕ → Feed → List ℕ → Feed
+feed-full block s bytes =
     record {
       at = cond (is-direct block (s .at) (s .count)) (s .at) (line-end block (s .at));
       held = next-held block (s .at) (s .held) (s .count);
       count = next-count block (s .at) (s .count);
       out = s .out;
       used = s .used;
+      needed = length bytes;
       more = false;
     }
 
 unfoldable pub feed-ended : List ℕ → Feed → List ℕ → Feed
-feed-ended block s bytes = cond (leb (s .used + length bytes) (length (s .out))) (feed-answered block s bytes) (feed-full block s)
+feed-ended block s bytes = cond (leb (s .used + length bytes) (length (s .out))) (feed-answered block s bytes) (feed-full block s bytes)
 
 unfoldable pub feed-line : List ℕ → Feed → Feed
 feed-line block s = cond (is-ended block (s .at)) (feed-ended block s (answered (next-bytes block (s .at) (s .held) (s .count)))) (feed-cut block s)
@@ -122,10 +129,20 @@ unfoldable pub feed-step : List ℕ → ℕ → Feed → Feed
 feed-step block k s = cond (s .more) (feed-line block s) s
 
 unfoldable pub feed-start : List ℕ → ℕ → List ℕ → Feed
-feed-start held count out = record { at = 0; held = held; count = count; out = out; used = 0; more = true }
+feed-start held count out = record { at = 0; held = held; count = count; out = out; used = 0; needed = 0; more = true }
 
 unfoldable pub fed : List ℕ → List ℕ → ℕ → List ℕ → Feed
 fed block held count out = rounds (feed-step block) (length block + 1) (feed-start held count out)
+
+-- ---- how a call ended
+
+-- where its memory has the room: all is taken, or an answer does not fit the output
+unfoldable pub how-ended : Bool → ℕ → Outcome
+how-ended whole needed = cond whole Whole (Full needed)
+
+-- first the memory lent for a cut line, then the count of what it is said to hold
+unfoldable pub memory-outcome : List ℕ → ℕ → Outcome → Outcome
+memory-outcome held count o = cond (leb most-held (length held)) (cond (leb count most-held) o Miscounted) Unheld
 
 -- ---- what is to hold
 
@@ -168,5 +185,5 @@ AnyCalls = (held : List ℕ) (calls : List Call) → most-held ≤ length held �
 
 -- opens every definition above, for a proof that computes with all of them
 unfoldable pub open-feeding : Unit {0}
-unfolding before-by before-feed line-end line-part held-with count-with is-ended is-direct next-count next-held next-bytes next-of feed-cut feed-answered feed-full feed-ended feed-line feed-step feed-start fed call-fed all-taken all-written
+unfolding before-by before-feed line-end line-part held-with count-with is-ended is-direct next-count next-held next-bytes next-of feed-cut feed-answered feed-full feed-ended feed-line feed-step feed-start fed how-ended memory-outcome call-fed all-taken all-written
 open-feeding = tt

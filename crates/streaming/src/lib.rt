@@ -10,6 +10,27 @@ pub struct Next {
     pub count: usize,
 }
 
+// How a call on the stream ended. `Whole`: the whole block is taken, or at the input's end the last line is answered. `Full`: the next answer
+// does not fit what is left of the output; it carries how many bytes that answer has with its LF. `Unheld`: the memory lent for a cut line has
+// fewer than 16,385 bytes; `Miscounted`: more than 16,385 are said to be held, which no call hands back. Of these two nothing is done.
+pub enum Outcome {
+    Whole,
+    Full(usize),
+    Unheld,
+    Miscounted,
+}
+
+// How a call with the memory that it needs ended.
+pub fn how_ended(whole: bool, needed: usize) -> Outcome
+    ensures { λ r. ⌜ r ≡ Feeding.how-ended whole needed ⌝ }
+{
+    if whole {
+        Outcome::Whole
+    } else {
+        Outcome::Full(needed)
+    }
+}
+
 // The place of the first LF from `at` on, or the end of the block.
 pub(crate) fn line_end(block: &[u8], at: usize) -> usize
     ensures { λ r. ⌜ r ≡ Feeding.line-end (now (block .entry)) at ⌝ }

@@ -1,21 +1,27 @@
--- The end of the input writes what the machine then writes. Assumes nothing.
+-- The end of the input writes what the machine then writes, and how a call ended is told apart. Assumes nothing.
 use Prim.Native.Nat.{ℕ, zero, suc, _+_, _≤_, _<_}
-use native.Mathlib.Nat.{le-trans}
+use native.Mathlib.Nat.{le-trans, zero-add}
 use native.Mathlib.Omega.{arith}
 use mathlib.Core.Bool.{Bool, true, false, cond, _&&_}
+use mathlib.Core.Logic.{_⊎_, inl, inr}
 use mathlib.Core.Path.{_≡_, refl, sym, ap, _∙_, subst}
 use mathlib.Core.List.{List, [], _∷_, _++_}
-use lib.Dec.{leb}
+use lib.Dec.{leb, eqb}
 use lib.ListN.{length, take, drop}
 use lib.Seq.{take-append-seam, length-take-le}
-use borrow.Author.Tests.{leb-true, leb-false}
+use borrow.Author.Tests.{leb-true, leb-false, ltb-true, le-leb, eq-eqb, ne-eqb}
 use Rattle.digits.specs.Stores.{put}
 use Rattle.digits.proofs.Puts.{put-front}
 use Rattle.jobs.specs.Stream.{StreamState, answered, with-answer, ended-by, written}
 use Rattle.jobs.proofs.Walks.{and-left, and-right}
-use Rattle.streaming.specs.Feeding.{most-held, machine}
+use Rattle.streaming.specs.Feeding.{line-end, is-ended, most-held, Feed, machine, fed, how-ended}
+use Rattle.streaming.specs.Progress.{next-answer, NextUnfit}
+use Rattle.streaming.specs.declared.Outcome.the-variants.{Whole, Full}
+use Rattle.streaming.proofs.Parts.{end-from}
+use Rattle.streaming.proofs.Progress.{answered-room, stops-full}
 use Rattle.wire.specs.declared.Put.{Put}
-use Rattle.wire.specs.Wire.{answer-fits, answer-put, put-written, holds, last-line, finished, finish-written, Finishes}
+use Rattle.wire.specs.Wire.{answer-fits, answer-put, put-written, holds, stream-fed, feed-as, feed-told, last-line, finished, finish-written, finish-told, EndsApart, Finishes, FinishesFitting}
+use Rattle.wire.proofs.Steps.{ends-as, is-fed, short-ends, much-ends}
 
 -- a line that has a byte is answered
 ended-line : (line : List ℕ) → 1 ≤ length line → written (record { line = line; output = [] }) ≡ answered line
@@ -60,11 +66,83 @@ module _ (held : List ℕ) (count : ℕ) (out : List ℕ) (h : holds held count 
       zero-of : (n : ℕ) → n < 1 → n ≡ 0
       zero-of n l = omega arith
 
-pub finishes : Finishes
-unfolding finished finish-written
-finishes held count out h f = go (last-line held count) refl f
+pub finishes-fitting : FinishesFitting
+unfolding finished finish-written finish-told
+finishes-fitting held count out h f = go (last-line held count) refl f
   where
-    go : (t : Bool) → last-line held count ≡ t → (cond t (answer-put (take count held) out 0) (record { fits = holds held count; used = 0 })) .fits ≡ true
-        → take ((cond t (answer-put (take count held) out 0) (record { fits = holds held count; used = 0 })) .used) (cond t (put-written (take count held) out 0) out) ≡ written (machine held count [])
+    go : (t : Bool) → last-line held count ≡ t → (cond t (answer-put (take count held) out 0) (record { fits = holds held count; used = 0; needed = 0 })) .fits ≡ true
+        → take ((cond t (answer-put (take count held) out 0) (record { fits = holds held count; used = 0; needed = 0 })) .used) (cond t (put-written (take count held) out 0) out) ≡ written (machine held count [])
     go true e g = put-front-line (take count held) out g ∙ sym (ended-line (take count held) (some-held held count out h e))
     go false e g = sym (ap (λ (n : ℕ). written (machine held n [])) (none-held held count out h e) ∙ no-line)
+
+-- any answer fits 16,385 bytes
+always-fits : (line out : List ℕ) → 16385 ≤ length out → (answer-put line out 0) .fits ≡ true
+unfolding answer-put answer-fits
+always-fits line out o =
+    le-leb (0 + length (answered line)) (length out)
+    (subst (λ (n : ℕ). n ≤ length out) (sym (zero-add (length (answered line)))) (le-trans (answered-room line) o))
+
+finish-fits : (held : List ℕ) (count : ℕ) (out : List ℕ) → holds held count ≡ true → 16385 ≤ length out → (finished held count out) .fits ≡ true
+unfolding finished
+finish-fits held count out h o = go (last-line held count)
+  where
+    go : (t : Bool) → (cond t (answer-put (take count held) out 0) (record { fits = holds held count; used = 0; needed = 0 })) .fits ≡ true
+    go true = always-fits (take count held) out o
+    go false = h
+
+module _ (held : List ℕ) (count : ℕ) (h : holds held count ≡ true) where
+  pub held-room : most-held ≤ length held
+  unfolding holds
+  held-room = leb-true most-held (length held) (and-left (leb most-held (length held)) _ h)
+
+  pub held-most : count ≤ most-held
+  unfolding holds
+  held-most = leb-true count most-held (and-right (leb most-held (length held)) _ h)
+
+pub finishes : Finishes
+unfolding finish-told how-ended
+finishes held count out h o =
+    let f = finish-fits held count out h o in
+    (ends-as [] held count out (held-room held count h) (held-most held count h) _ ∙ ap (λ (t : Bool). how-ended t ((finished held count out) .needed)) f, finishes-fitting held count out h f)
+
+-- ---- how a call ended
+
+in-block : (block : List ℕ) (at : ℕ) → is-ended block at ≡ true → line-end block at < length block
+unfolding is-ended
+in-block block at e = ltb-true (line-end block at) (length block) e
+
+module _ (block held : List ℕ) (count : ℕ) (out : List ℕ) where
+  enough-ends : holds held count ≡ true
+      → ((feed-told block held count out) .outcome ≡ Whole × (feed-told block held count out) .taken ≡ length block)
+      ⊎ ((feed-told block held count out) .outcome ≡ Full (length (next-answer block (fed block held count out))) × NextUnfit block (fed block held count out))
+  unfolding feed-told feed-as how-ended
+  enough-ends h = go (stops-full block held count out (held-most held count h) (held-room held count h))
+    where
+      same : stream-fed block held count out ≡ fed block held count out
+      same = is-fed block held count out (held-room held count h) (held-most held count h)
+
+      ends : (t : Bool) → eqb ((stream-fed block held count out) .at) (length block) ≡ t → (feed-told block held count out) .outcome ≡ how-ended t ((stream-fed block held count out) .needed)
+      ends t e = ends-as block held count out (held-room held count h) (held-most held count h) _ ∙ ap (λ (u : Bool). how-ended u ((stream-fed block held count out) .needed)) e
+
+      -- an LF that is ahead is in the block
+      ahead : NextUnfit block (fed block held count out) → (fed block held count out) .at ≡ length block → ⊥
+      ahead u e = past (line-end block ((fed block held count out) .at)) ((fed block held count out) .at) (length block) e (end-from block ((fed block held count out) .at)) (in-block block _ (u .ahead))
+        where
+          past : (x a n : ℕ) → a ≡ n → a ≤ x → x < n → ⊥
+          past x a n p q r = omega arith
+
+      go : ((fed block held count out) .at ≡ length block) ⊎ NextUnfit block (fed block held count out)
+          → ((feed-told block held count out) .outcome ≡ Whole × (feed-told block held count out) .taken ≡ length block)
+          ⊎ ((feed-told block held count out) .outcome ≡ Full (length (next-answer block (fed block held count out))) × NextUnfit block (fed block held count out))
+      go (inl e) = let w = ap (λ (s : Feed). s .at) same ∙ e in inl (ends true (eq-eqb _ _ w), w)
+      go (inr u) =
+          inr (ends false (ne-eqb _ _ (λ w. ahead u (sym (ap (λ (s : Feed). s .at) same) ∙ w))) ∙ ap Full (ap (λ (s : Feed). s .needed) same ∙ u .needed), u)
+
+pub ends-apart : EndsApart
+unfolding feed-told feed-as
+ends-apart block held count out =
+    record {
+      unheld = λ h. short-ends block held count out h _;
+      miscounted = λ h c. much-ends block held count out h c _;
+      enough = enough-ends block held count out;
+    }

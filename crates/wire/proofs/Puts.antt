@@ -1,13 +1,13 @@
 -- An answer line and its LF, put into lent bytes from a place on. Assumes nothing.
-use Prim.Native.Nat.{ℕ, _+_, _-_, _≤_, _<_}
-use native.Mathlib.Nat.{le-of-lt}
+use Prim.Native.Nat.{ℕ, suc, _+_, _-_, _≤_, _<_}
+use native.Mathlib.Nat.{le-of-lt, add-zero, zero-add}
 use native.Mathlib.Omega.{arith}
 use mathlib.Core.Bool.{Bool, true, false, cond}
 use mathlib.Core.Path.{_≡_, refl, sym, ap, _∙_, subst}
-use mathlib.Core.List.{List, [], _∷_, _++_, append-assoc}
+use mathlib.Core.List.{List, [], _∷_, _++_, append-nil, append-assoc}
 use lib.Dec.{leb}
 use lib.ListN.{set, length, take, drop, length-append, length-drop, take-append-drop}
-use lib.Seq.{sets-eq, drop-append-le, drop-drop, length-take-le}
+use lib.Seq.{sets-eq, drop-append-le, drop-drop, drop-length, drop-nil, take-length, take-nil, length-take-le}
 use borrow.Author.Tests.{leb-true, leb-false, le-leb, lt-leb}
 use Rattle.error.specs.declared.Refusal.the-variants.{Granted, Short}
 use Rattle.error.specs.Refusals.{granted, open-refusals}
@@ -16,10 +16,13 @@ use Rattle.digits.proofs.Puts.{put-append, put-length}
 use Rattle.jobs.specs.Fields.{line-feed}
 use Rattle.jobs.specs.Lines.{answer-line, bytes-refusal, bytes-written}
 use Rattle.jobs.specs.Stream.{answered}
+use Rattle.jobs.proofs.Sizes.{answer-in-line}
+use Rattle.values.specs.Carries.{told, carried-of, carried}
+use Rattle.values.specs.declared.Carried.{Carried}
 use Rattle.answering.specs.declared.Answered.{Answered}
 use Rattle.answering.specs.Writing.{bytes-answered}
 use Rattle.wire.specs.declared.Put.{Put}
-use Rattle.wire.specs.Wire.{answer-fits, answer-put, put-written}
+use Rattle.wire.specs.Wire.{answer-fits, answer-put, needed-by, put-written}
 
 -- ---- what a write of these bytes answered
 
@@ -50,11 +53,58 @@ module _ (bytes l : List ℕ) (x : Answered) (e : x ≡ bytes-answered bytes l) 
   unfolding bytes-written
   unstored q w r = r ∙ ap (λ (t : Bool). cond t (bytes ++ drop (length bytes) l) l) (sym tested ∙ q)
 
--- ---- the answer in the part of the output
-
 answered-size : (line : List ℕ) → length (answered line) ≡ length (answer-line line) + 1
 unfolding answered
 answered-size line = length-append (answer-line line) (line-feed ∷ [])
+
+-- ---- how many bytes an answer has, by what its write answered
+
+both-is : (bytes l : List ℕ) → (bytes-answered bytes l) .count + (carried ((bytes-answered bytes l) .refusal)) .first ≡ length bytes
+unfolding bytes-answered bytes-refusal carried carried-of told open-refusals
+both-is bytes l = go (leb (length bytes) (length l))
+  where
+    go : (t : Bool) → cond t (length bytes) 0 + (carried (cond t Granted (Short (length bytes)))) .first ≡ length bytes
+    go true = add-zero (length bytes)
+    go false = zero-add (length bytes)
+
+module _ (line l : List ℕ) (x : Answered) (e : x ≡ bytes-answered (answer-line line) l) where
+  both-line : x .count + (carried (x .refusal)) .first ≡ length (answer-line line)
+  both-line = ap (λ (y : Answered). y .count + (carried (y .refusal)) .first) e ∙ both-is (answer-line line) l
+
+  pub needed-in : x .count + (carried (x .refusal)) .first ≤ 16384
+  needed-in = subst (λ (n : ℕ). n ≤ 16384) (sym both-line) (answer-in-line line)
+
+  pub needed-is : needed-by x ≡ length (answered line)
+  unfolding needed-by
+  needed-is = ap (λ (n : ℕ). n + 1) both-line ∙ sym (answered-size line)
+
+-- the same, of the struct that the code reads
+module _ (a : Answered) (x : Carried) (e : x ≡ carried (a .refusal)) where
+  pub both-fits : a .count + (carried (a .refusal)) .first ≤ 16384 → a .count + x .first ≤ 16384
+  both-fits h = subst (λ (y : Carried). a .count + y .first ≤ 16384) (sym e) h
+
+  pub both-told : a .count + x .first + 1 ≡ needed-by a
+  unfolding needed-by
+  both-told = ap (λ (y : Carried). a .count + y .first + 1) e
+
+-- a write to no bytes changes none
+pub none-written : (bytes l w : List ℕ) → w ≡ bytes-written bytes (take (length l - length l) (drop (length l) l))
+    → take (length l) l ++ (w ++ drop (length l - length l) (drop (length l) l)) ≡ l
+unfolding bytes-written
+none-written bytes l w r =
+    ap (λ (m : List ℕ). take (length l) l ++ m) (ap (λ (m : List ℕ). w ++ m) (ap (drop (length l - length l)) (drop-length l) ∙ drop-nil (length l - length l)) ∙ append-nil w
+    ∙ r ∙ ap (bytes-written bytes) (ap (take (length l - length l)) (drop-length l) ∙ take-nil (length l - length l)) ∙ go bytes)
+    ∙ append-nil (take (length l) l)
+    ∙ take-length l
+  where
+    go : (b : List ℕ) → bytes-written b [] ≡ []
+    go [] = refl
+    go (y ∷ b) = rw (lt-leb (suc (length b)) 0 (some (length b))) refl
+      where
+        some : (n : ℕ) → 0 < suc n
+        some n = omega arith
+
+-- ---- the answer in the part of the output
 
 does-fit : (line l : List ℕ) (used : ℕ) → used + length (answer-line line) < length l → answer-fits line l used ≡ true
 unfolding answer-fits
@@ -70,9 +120,10 @@ does-not line l used h = lt-leb (used + length (answered line)) (length l) (subs
     one : (a b c : ℕ) → c ≤ a + b → c < a + (b + 1)
     one a b c q = omega arith
 
-pub not-told : (line l : List ℕ) (used : ℕ) → length l ≤ used + length (answer-line line) → _≡_ {A = Put} (record { fits = false; used = used }) (answer-put line l used)
+pub not-told : (line l : List ℕ) (used n : ℕ) → length l ≤ used + length (answer-line line) → n ≡ length (answered line)
+    → _≡_ {A = Put} (record { fits = false; used = used; needed = n }) (answer-put line l used)
 unfolding answer-put
-not-told line l used h = rw (does-not line l used h) refl
+not-told line l used n h q = rw (does-not line l used h, q) refl
 
 pub not-written : (line l w : List ℕ) (used : ℕ) → length l ≤ used + length (answer-line line) → w ≡ l → w ≡ put-written line l used
 unfolding put-written
@@ -114,9 +165,11 @@ module _ (line l : List ℕ) (used : ℕ) (h : used < length l) where
       pub end-in : used + x .count < length l
       end-in = subst (λ (n : ℕ). used + n < length l) (sym count-is) inside
 
-      pub yes-told : _≡_ {A = Put} (record { fits = true; used = used + x .count + 1 }) (answer-put line l used)
+      pub yes-told : _≡_ {A = Put} (record { fits = true; used = used + x .count + 1; needed = x .count + 1 }) (answer-put line l used)
       unfolding answer-put
-      yes-told = rw (does-fit line l used inside, count-is, answered-size line) (ap (λ (n : ℕ). record { fits = true; used = n }) (sum used (length (answer-line line))))
+      yes-told =
+          rw (does-fit line l used inside, count-is, answered-size line)
+          (ap (λ (n : ℕ). record { fits = true; used = n; needed = length (answer-line line) + 1 }) (sum used (length (answer-line line))))
         where
           sum : (u b : ℕ) → u + b + 1 ≡ u + (b + 1)
           sum u b = omega arith
@@ -158,8 +211,8 @@ module _ (line l : List ℕ) (used : ℕ) (h : used < length l) where
           sum : (u b n : ℕ) → u < n → n - 1 - u < b → n ≤ u + b
           sum u b n a c = omega arith
 
-      pub no-told : _≡_ {A = Put} (record { fits = false; used = used }) (answer-put line l used)
-      no-told = not-told line l used past
+      pub no-told : (n : ℕ) → n ≡ needed-by x → _≡_ {A = Put} (record { fits = false; used = used; needed = n }) (answer-put line l used)
+      no-told n z = not-told line l used n past (z ∙ needed-is line (take (length l - 1 - used) (drop used l)) x e)
 
       pub no-written : (w : List ℕ) → w ≡ bytes-written (answer-line line) (take (length l - 1 - used) (drop used l))
           → take used l ++ (w ++ drop (length l - 1 - used) (drop used l)) ≡ put-written line l used
@@ -170,5 +223,18 @@ module _ (line l : List ℕ) (used : ℕ) (h : used < length l) where
           ∙ ap (λ (m : List ℕ). take used l ++ m) (take-append-drop (length l - 1 - used) (drop used l))
           ∙ take-append-drop used l)
 
-pub far : (n u b : ℕ) → n ≤ u → n ≤ u + b
+far : (n u b : ℕ) → n ≤ u → n ≤ u + b
 far n u b h = omega arith
+
+-- where no byte is left
+module _ (line l : List ℕ) (used : ℕ) (h : length l ≤ used) where
+  past-end : length l ≤ used + length (answer-line line)
+  past-end = far (length l) used (length (answer-line line)) h
+
+  pub end-told : (m : List ℕ) (x : Answered) → x ≡ bytes-answered (answer-line line) m → (n : ℕ) → n ≡ needed-by x
+      → _≡_ {A = Put} (record { fits = false; used = used; needed = n }) (answer-put line l used)
+  end-told m x e n z = not-told line l used n past-end (z ∙ needed-is line m x e)
+
+  pub end-written : (w : List ℕ) → w ≡ bytes-written (answer-line line) (take (length l - length l) (drop (length l) l))
+      → take (length l) l ++ (w ++ drop (length l - length l) (drop (length l) l)) ≡ put-written line l used
+  end-written w r = not-written line l _ used past-end (none-written (answer-line line) l w r)

@@ -2,7 +2,7 @@
 use Prim.Native.Nat.{ℕ, zero, suc, _+_, _-_, _≤_, _<_}
 use native.Mathlib.Nat.{le-trans, le-of-eq, le-of-lt, le-antisymm}
 use native.Mathlib.Omega.{arith}
-use mathlib.Core.Bool.{Bool, true, false, cond, not, _&&_}
+use mathlib.Core.Bool.{Bool, true, false, cond, not, _&&_, false≢true}
 use mathlib.Core.Path.{_≡_, refl, sym, ap, _∙_, subst}
 use mathlib.Core.List.{List, [], _∷_, _++_}
 use lib.Dec.{leb, ltb, eqb}
@@ -13,13 +13,17 @@ use Rattle.loops.proofs.Laws.{next-round, stays-to}
 use Rattle.digits.specs.Stores.{put}
 use Rattle.jobs.specs.Stream.{answered}
 use Rattle.streaming.specs.declared.Next.{Next}
-use Rattle.streaming.specs.Feeding.{before-feed, line-end, line-part, most-held, count-with, is-ended, is-direct, next-count, next-held, next-bytes, next-of, Feed, feed-cut, feed-answered, feed-full, feed-ended, feed-line, feed-step, feed-start, fed}
+use Rattle.streaming.specs.declared.Outcome.{Outcome}
+use Rattle.streaming.specs.declared.Outcome.the-variants.{Whole, Unheld, Miscounted}
+use Rattle.streaming.specs.Feeding.{before-feed, line-end, line-part, most-held, count-with, is-ended, is-direct, next-count, next-held, next-bytes, next-of, Feed, feed-cut, feed-answered, feed-full, feed-ended, feed-line, feed-step, feed-start, fed, how-ended, memory-outcome}
 use Rattle.streaming.proofs.Parts.{end-from}
 use Rattle.streaming.proofs.Machine.{part-most, feeds-to}
 use Rattle.wire.specs.declared.Put.{Put}
 use Rattle.wire.specs.declared.Step.{Step}
 use Rattle.wire.specs.declared.Fed.{Fed}
-use Rattle.wire.specs.Wire.{answer-fits, answer-put, put-written, line-of, feed-of, step-told, held-of, out-of, holds, stuck, stream-fed, told, last-line, finished, finish-written}
+use Rattle.wire.specs.declared.Taken.{Taken}
+use Rattle.wire.specs.declared.Last.{Last}
+use Rattle.wire.specs.Wire.{answer-fits, answer-put, put-written, line-of, feed-of, step-told, held-of, out-of, holds, stuck, stream-fed, told, feed-as, feed-told, last-line, finished, finish-written, finish-told}
 
 -- ---- the line that was found
 
@@ -96,7 +100,7 @@ module _ (block : List ℕ) (at : ℕ) (held : List ℕ) (count : ℕ) (out : Li
           unfolding feed-line feed-ended feed-of
           line-is = rw (found, fit) refl
 
-          pub yes-step : _≡_ {A = Step} (record { at = next .stop + 1; count = 0; used = p .used; more = true }) (step-told (feed-line block (feed-of at held count out used)))
+          pub yes-step : _≡_ {A = Step} (record { at = next .stop + 1; count = 0; used = p .used; needed = 0; more = true }) (step-told (feed-line block (feed-of at held count out used)))
           unfolding step-told feed-answered feed-of
           yes-step = rw (line-is, stop-is, used-is) refl
 
@@ -115,13 +119,17 @@ module _ (block : List ℕ) (at : ℕ) (held : List ℕ) (count : ℕ) (out : Li
           unfit : leb (used + length (answered (next-bytes block at held count))) (length out) ≡ false
           unfit = sym fits-is ∙ t
 
-          full-is : feed-line block (feed-of at held count out used) ≡ feed-full block (feed-of at held count out used)
+          full-is : feed-line block (feed-of at held count out used) ≡ feed-full block (feed-of at held count out used) (answered (next-bytes block at held count))
           unfolding feed-line feed-ended feed-of
           full-is = rw (found, unfit) refl
 
-          pub no-step : (a : ℕ) → a ≡ cond (next .direct) at (next .stop) → _≡_ {A = Step} (record { at = a; count = next .count; used = used; more = false }) (step-told (feed-line block (feed-of at held count out used)))
+          needs : p .needed ≡ length (answered (next-bytes block at held count))
+          unfolding answer-put
+          needs = ap (λ (x : Put). x .needed) put-is
+
+          pub no-step : (a : ℕ) → a ≡ cond (next .direct) at (next .stop) → _≡_ {A = Step} (record { at = a; count = next .count; used = used; needed = p .needed; more = false }) (step-told (feed-line block (feed-of at held count out used)))
           unfolding step-told feed-full feed-of
-          no-step a z = rw (full-is, z, direct-is, stop-is, count-is) refl
+          no-step a z = rw (full-is, z, direct-is, stop-is, count-is, needs) refl
 
           pub no-held : mid ≡ held-of (feed-line block (feed-of at held count out used))
           unfolding held-of feed-full feed-of
@@ -139,7 +147,7 @@ module _ (block : List ℕ) (at : ℕ) (held : List ℕ) (count : ℕ) (out : Li
     unfolding feed-line feed-of
     cut-is = let f : is-ended block at ≡ false = sym ended-is ∙ h in rw f refl
 
-    pub cut-step : _≡_ {A = Step} (record { at = next .stop; count = next .count; used = used; more = false }) (step-told (feed-line block (feed-of at held count out used)))
+    pub cut-step : _≡_ {A = Step} (record { at = next .stop; count = next .count; used = used; needed = 0; more = false }) (step-told (feed-line block (feed-of at held count out used)))
     unfolding step-told feed-cut feed-of
     cut-step = rw (cut-is, stop-is, count-is) refl
 
@@ -175,6 +183,20 @@ held-written block at next held out used x d q = rw d q
 
 -- ---- the whole block
 
+-- an answer that does not fit ends the walk
+none-needed : (block : List ℕ) (x : Feed) → (feed-line block x) .more ≡ true → (feed-line block x) .needed ≡ 0
+unfolding feed-line feed-ended feed-answered feed-full feed-cut
+none-needed block x = go (is-ended block (x .at)) (leb (x .used + length bytes) (length (x .out)))
+  where
+    bytes : List ℕ
+    bytes = answered (next-bytes block (x .at) (x .held) (x .count))
+
+    go : (t u : Bool) → (cond t (cond u (feed-answered block x bytes) (feed-full block x bytes)) (feed-cut block x)) .more ≡ true
+        → (cond t (cond u (feed-answered block x bytes) (feed-full block x bytes)) (feed-cut block x)) .needed ≡ 0
+    go true true m = refl
+    go true false m = absurd (false≢true m)
+    go false u m = refl
+
 not-fed : (block : List ℕ) (i : ℕ) (f : Feed) → f .more ≡ false → feed-step block i f ≡ f
 unfolding feed-step
 not-fed block i f m = rw m refl
@@ -199,7 +221,7 @@ module _ (block held₀ : List ℕ) (count : ℕ) (out₀ : List ℕ) (k at : �
         one : (x y : ℕ) → x < y → x + 1 ≤ y
         one x y h = omega arith
 
-    pub end-told : _≡_ {A = Fed} (record { taken = at; count = have; used = used }) (told (fed block held₀ count out₀))
+    pub end-told : _≡_ {A = Taken} (record { at = at; count = have; used = used; needed = 0 }) (told (fed block held₀ count out₀))
     unfolding told feed-of
     end-told = ap told all-fed
 
@@ -222,12 +244,12 @@ module _ (block held₀ : List ℕ) (count : ℕ) (out₀ : List ℕ) (k at : �
     unfolding step-told
     more-is = ap (λ (x : Step). x .more) p
 
-    again : (f : Feed) → f .more ≡ true → s ≡ step-told f → held₁ ≡ held-of f → out₁ ≡ out-of f → feed-of (s .at) held₁ (s .count) out₁ (s .used) ≡ f
+    again : (f : Feed) → f .more ≡ true → f .needed ≡ 0 → s ≡ step-told f → held₁ ≡ held-of f → out₁ ≡ out-of f → feed-of (s .at) held₁ (s .count) out₁ (s .used) ≡ f
     unfolding feed-of step-told held-of out-of
-    again f m x y z = rw (x, y, z, sym m) refl
+    again f m n x y z = rw (x, y, z, sym m, sym n) refl
 
     pub goes-on : not (s .more) ≡ false → feed-of (s .at) held₁ (s .count) out₁ (s .used) ≡ rounds (feed-step block) (k + 1) (feed-start held₀ count out₀)
-    goes-on h = again (feed-line block (feed-of at held have out used)) (sym more-is ∙ not-false (s .more) h) p q w ∙ one-more
+    goes-on h = let m = sym more-is ∙ not-false (s .more) h in again (feed-line block (feed-of at held have out used)) m (none-needed block (feed-of at held have out used) m) p q w ∙ one-more
 
     module _ (h : not (s .more) ≡ true) (a : k ≤ length block) where
       stopped : feed-line block (feed-of at held have out used) ≡ fed block held₀ count out₀
@@ -240,9 +262,9 @@ module _ (block held₀ : List ℕ) (count : ℕ) (out₀ : List ℕ) (k at : �
           still : (f : Feed) → f .more ≡ false → (i : ℕ) → feed-step block i f ≡ f
           still f m i = not-fed block i f m
 
-      pub stop-told : _≡_ {A = Fed} (record { taken = s .at; count = s .count; used = s .used }) (told (fed block held₀ count out₀))
+      pub stop-told : _≡_ {A = Taken} (record { at = s .at; count = s .count; used = s .used; needed = s .needed }) (told (fed block held₀ count out₀))
       unfolding told step-told
-      stop-told = ap (λ (x : Step). record { taken = x .at; count = x .count; used = x .used }) p ∙ ap told stopped
+      stop-told = ap (λ (x : Step). record { at = x .at; count = x .count; used = x .used; needed = x .needed }) p ∙ ap told stopped
 
       pub stop-held : held₁ ≡ held-of (fed block held₀ count out₀)
       stop-held = q ∙ ap held-of stopped
@@ -254,17 +276,23 @@ pub starts : (block held : List ℕ) (count : ℕ) (out : List ℕ) → feed-of 
 unfolding feed-of feed-start rounds
 starts block held count out = refl
 
--- ---- memory without the room
+-- ---- the memory lent for a cut line, and how a call ended
 
 module _ (block held : List ℕ) (count : ℕ) (out : List ℕ) where
-  module _ (n : holds held count ≡ false) where
+  -- what the end of the input hands back
+  last-of : Put → Last
+  last-of p = record { used = p .used; outcome = memory-outcome held count (how-ended (p .fits) (p .needed)) }
+
+  module _ (n : holds held count ≡ false) (o : Outcome) (h : (x : Outcome) → memory-outcome held count x ≡ o) where
     stays : stream-fed block held count out ≡ stuck held count out
     unfolding stream-fed
     stays = rw n refl
 
-    pub stuck-told : _≡_ {A = Fed} (record { taken = 0; count = count; used = 0 }) (told (stream-fed block held count out))
-    unfolding told stuck
-    stuck-told = ap told (sym stays)
+    pub stuck-told : _≡_ {A = Fed} (record { taken = 0; count = count; used = 0; outcome = o }) (feed-told block held count out)
+    unfolding feed-told feed-as stuck
+    stuck-told =
+        ap (λ (x : Outcome). record { taken = 0; count = count; used = 0; outcome = x }) (sym (h (how-ended (eqb 0 (length block)) 0)))
+        ∙ ap (feed-as block held count) (sym stays)
 
     pub stuck-held : held ≡ held-of (stream-fed block held count out)
     unfolding held-of stuck
@@ -278,33 +306,58 @@ module _ (block held : List ℕ) (count : ℕ) (out : List ℕ) where
     unfolding last-line
     no-last = rw n refl
 
-    pub unheld-told : _≡_ {A = Put} (record { fits = false; used = 0 }) (finished held count out)
+    unfinished : finished held count out ≡ record { fits = holds held count; used = 0; needed = 0 }
     unfolding finished
-    unheld-told = rw (no-last, n) refl
+    unfinished = rw no-last refl
+
+    pub unheld-told : _≡_ {A = Last} (record { used = 0; outcome = o }) (finish-told held count out)
+    unfolding finish-told last-of
+    unheld-told = ap (λ (x : Outcome). record { used = 0; outcome = x }) (sym (h (how-ended (holds held count) 0))) ∙ ap last-of (sym unfinished)
 
     pub unheld-written : out ≡ finish-written held count out
     unfolding finish-written
     unheld-written = rw no-last refl
 
-  pub short-held : length held < 16385 → holds held count ≡ false
-  unfolding holds
-  short-held h = rw (lt-leb 16385 (length held) h) refl
+  module _ (h : length held < 16385) where
+    pub short-held : holds held count ≡ false
+    unfolding holds
+    short-held = rw (lt-leb 16385 (length held) h) refl
 
-  pub much-held : 16385 ≤ length held → 16385 < count → holds held count ≡ false
-  unfolding holds
-  much-held h c = rw (le-leb 16385 (length held) h, lt-leb count 16385 c) refl
+    pub short-ends : (x : Outcome) → memory-outcome held count x ≡ Unheld
+    unfolding memory-outcome
+    short-ends x = rw (lt-leb 16385 (length held) h) refl
+
+  module _ (h : 16385 ≤ length held) (c : 16385 < count) where
+    pub much-held : holds held count ≡ false
+    unfolding holds
+    much-held = rw (le-leb 16385 (length held) h, lt-leb count 16385 c) refl
+
+    pub much-ends : (x : Outcome) → memory-outcome held count x ≡ Miscounted
+    unfolding memory-outcome
+    much-ends x = rw (le-leb 16385 (length held) h, lt-leb count 16385 c) refl
 
   module _ (h : 16385 ≤ length held) (c : count ≤ 16385) where
     room : holds held count ≡ true
     unfolding holds
     room = rw (le-leb 16385 (length held) h, le-leb count 16385 c) refl
 
-    is-fed : stream-fed block held count out ≡ fed block held count out
+    pub ends-as : (x : Outcome) → memory-outcome held count x ≡ x
+    unfolding memory-outcome
+    ends-as x = rw (le-leb 16385 (length held) h, le-leb count 16385 c) refl
+
+    pub is-fed : stream-fed block held count out ≡ fed block held count out
     unfolding stream-fed
     is-fed = rw room refl
 
-    pub fed-told : (x : Fed) → x ≡ told (fed block held count out) → x ≡ told (stream-fed block held count out)
-    fed-told x q = q ∙ ap told (sym is-fed)
+    fed-as : (s : Feed) (t : Taken) (w : Outcome) → t ≡ told s → w ≡ how-ended (eqb (t .at) (length block)) (t .needed)
+        → _≡_ {A = Fed} (record { taken = t .at; count = t .count; used = t .used; outcome = w }) (feed-as block held count s)
+    unfolding told feed-as
+    fed-as s t w p q = rw (q, p, ends-as (how-ended (eqb (s .at) (length block)) (s .needed))) refl
+
+    pub fed-told : (t : Taken) (w : Outcome) → t ≡ told (fed block held count out) → w ≡ how-ended (eqb (t .at) (length block)) (t .needed)
+        → _≡_ {A = Fed} (record { taken = t .at; count = t .count; used = t .used; outcome = w }) (feed-told block held count out)
+    unfolding feed-told
+    fed-told t w p q = fed-as (fed block held count out) t w p q ∙ ap (feed-as block held count) (sym is-fed)
 
     pub fed-held : (x : List ℕ) → x ≡ held-of (fed block held count out) → x ≡ held-of (stream-fed block held count out)
     fed-held x q = q ∙ ap held-of (sym is-fed)
@@ -317,9 +370,13 @@ module _ (block held : List ℕ) (count : ℕ) (out : List ℕ) where
       unfolding last-line
       none-last = rw (room, z) refl
 
-      pub none-told : _≡_ {A = Put} (record { fits = true; used = 0 }) (finished held count out)
+      none-there : finished held count out ≡ record { fits = true; used = 0; needed = 0 }
       unfolding finished
-      none-told = rw (none-last, room) refl
+      none-there = rw (none-last, room) refl
+
+      pub none-told : _≡_ {A = Last} (record { used = 0; outcome = Whole }) (finish-told held count out)
+      unfolding finish-told last-of how-ended
+      none-told = ap (λ (x : Outcome). record { used = 0; outcome = x }) (sym (ends-as Whole)) ∙ ap last-of (sym none-there)
 
       pub none-written : out ≡ finish-written held count out
       unfolding finish-written
@@ -334,9 +391,16 @@ module _ (block held : List ℕ) (count : ℕ) (out : List ℕ) where
           some zero f = absurd (f refl)
           some (suc n) f = omega arith
 
-      pub last-told : (x : Put) → x ≡ answer-put (take count held) out 0 → x ≡ finished held count out
+      last-there : finished held count out ≡ answer-put (take count held) out 0
       unfolding finished
-      last-told x q = rw some-last q
+      last-there = rw some-last refl
+
+      pub last-told : (p : Put) (w : Outcome) → p ≡ answer-put (take count held) out 0 → w ≡ how-ended (p .fits) (p .needed)
+          → _≡_ {A = Last} (record { used = p .used; outcome = w }) (finish-told held count out)
+      unfolding finish-told last-of
+      last-told p w e q =
+          ap (λ (x : Outcome). record { used = p .used; outcome = x }) (q ∙ sym (ends-as (how-ended (p .fits) (p .needed))))
+          ∙ ap last-of (e ∙ sym last-there)
 
       pub last-written : (x : List ℕ) → x ≡ put-written (take count held) out 0 → x ≡ finish-written held count out
       unfolding finish-written

@@ -1,26 +1,46 @@
 // One line of bytes to one line of bytes, and the stream of lines.
 ghost use mathlib.Core.Path.{_≡_};
 ghost use mathlib.Core.Bool.{true};
-ghost use Prim.Native.Nat.{_≤_};
+ghost use Prim.Native.Nat.{_+_, _≤_};
 ghost use lib.ListN.{length};
 ghost use Rattle.jobs.specs.Lines;
 ghost use Rattle.answering.specs.Writing;
+ghost use Rattle.values.specs.Carries;
 ghost use Rattle.streaming.specs.Feeding;
 ghost use Rattle.wire.specs.Wire;
 use answering::Answered;
 use streaming::Next;
+use streaming::Outcome;
+use values::Carried;
 
-// Whether an answer fitted the lent bytes, and how many are used then.
+// Whether an answer fitted the lent bytes, how many are used then, and how many it has with its LF.
 pub struct Put {
     pub fits: bool,
     pub used: usize,
+    pub needed: usize,
 }
 
-// How many bytes of a block are taken, how many of a cut line are held, and how many bytes of the output are used.
+// How many bytes of a block are taken, how many of a cut line are held, how many bytes of the output are used, and how many the answer needs
+// that did not fit.
+pub struct Taken {
+    pub at: usize,
+    pub count: usize,
+    pub used: usize,
+    pub needed: usize,
+}
+
+// How many bytes of a block are taken, how many of a cut line are held, how many bytes of the output are used, and how the call ended.
 pub struct Fed {
     pub taken: usize,
     pub count: usize,
     pub used: usize,
+    pub outcome: Outcome,
+}
+
+// At the end of the input: how many bytes of the output are used, and how the call ended.
+pub struct Last {
+    pub used: usize,
+    pub outcome: Outcome,
 }
 
 // One line of a block; `more` where the next one may follow.
@@ -28,6 +48,7 @@ pub struct Step {
     pub at: usize,
     pub count: usize,
     pub used: usize,
+    pub needed: usize,
     pub more: bool,
 }
 
@@ -69,6 +90,16 @@ pub fn answer_line(line: &[u8], out: &mut [u8]) -> Answered
     answer_with(line, &mut lengths, &mut coordinates, out)
 }
 
+// How many bytes an answer line has with its LF, by what its write answered.
+pub(crate) fn bytes_needed(a: Answered) -> usize
+    requires { ⌜ a .count + (Carries.carried (a .refusal)) .first ≤ 16384 ⌝ }
+    ensures { λ r. ⌜ r ≡ Wire.needed-by a ⌝ }
+{
+    let refusal = a.refusal;
+    let carried = Carried::new(refusal);
+    a.count + carried.first + 1
+}
+
 // The answer line and its LF, to lent bytes from `used` on; where they do not fit, nothing.
 pub(crate) fn put_answer<'a>(
     line: &'a [u8],
@@ -92,16 +123,20 @@ pub(crate) fn put_answer<'a>(
             return Put {
                 fits: true,
                 used: end + 1,
+                needed: a.count + 1,
             };
         }
         return Put {
             fits: false,
             used: used,
+            needed: bytes_needed(a),
         };
     }
+    let b = answer_with(line, lengths, coordinates, &mut out[size..]);
     Put {
         fits: false,
         used: used,
+        needed: bytes_needed(b),
     }
 }
 
@@ -161,6 +196,7 @@ pub(crate) fn feed_line<'a>(
                 at: stop + 1,
                 count: 0,
                 used: p.used,
+                needed: 0,
                 more: true,
             };
         }
@@ -168,6 +204,7 @@ pub(crate) fn feed_line<'a>(
             at: ring::choose(next.direct, at, stop),
             count: next.count,
             used: used,
+            needed: p.needed,
             more: false,
         };
     }
@@ -175,14 +212,16 @@ pub(crate) fn feed_line<'a>(
         at: stop,
         count: next.count,
         used: used,
+        needed: 0,
         more: false,
     }
 }
 
-// The lines of a block, until it is taken or an answer does not fit the output. `count` bytes of a cut line are held. Where the memory lent for them has not
-// the room, nothing is taken.
+// The lines of a block, until it is taken or an answer does not fit the output; `count` bytes of a cut line are held. A call with 16,385 bytes
+// of output takes one line at least, or the whole block. Where the memory lent for a cut line has not the room, or the count is none that a
+// call hands back, nothing is changed.
 pub fn feed<'a>(block: &'a [u8], held: &'a mut [u8], count: usize, out: &'a mut [u8]) -> Fed
-    ensures told { λ r. ⌜ r ≡ Wire.told (Wire.stream-fed (now (block .entry)) (now (held .entry)) count (now (out .entry))) ⌝ }
+    ensures told { λ r. ⌜ r ≡ Wire.feed-told (now (block .entry)) (now (held .entry)) count (now (out .entry)) ⌝ }
     ensures held { λ _. ⌜ now (held .exit) ≡ Wire.held-of (Wire.stream-fed (now (block .entry)) (now (held .entry)) count (now (out .entry))) ⌝ }
     ensures written { λ _. ⌜ now (out .exit) ≡ Wire.out-of (Wire.stream-fed (now (block .entry)) (now (held .entry)) count (now (out .entry))) ⌝ }
 {
@@ -191,6 +230,7 @@ pub fn feed<'a>(block: &'a [u8], held: &'a mut [u8], count: usize, out: &'a mut 
             taken: 0,
             count: count,
             used: 0,
+            outcome: Outcome::Unheld,
         };
     }
     if 16385 < count {
@@ -198,11 +238,18 @@ pub fn feed<'a>(block: &'a [u8], held: &'a mut [u8], count: usize, out: &'a mut 
             taken: 0,
             count: count,
             used: 0,
+            outcome: Outcome::Miscounted,
         };
     }
     let mut lengths = [0usize; 999];
     let mut coordinates = [0.0; 962];
-    feed_lines(block, held, count, &mut lengths, &mut coordinates, out)
+    let t = feed_lines(block, held, count, &mut lengths, &mut coordinates, out);
+    Fed {
+        taken: t.at,
+        count: t.count,
+        used: t.used,
+        outcome: streaming::how_ended(t.at == block.len(), t.needed),
+    }
 }
 
 // The same with memory for a line's numbers.
@@ -213,7 +260,7 @@ pub(crate) fn feed_lines<'a>(
     lengths: &'a mut [usize],
     coordinates: &'a mut [f64],
     out: &'a mut [u8],
-) -> Fed
+) -> Taken
     requires { ⌜ 999 ≤ length (now lengths) ⌝ }
     requires { ⌜ 962 ≤ length (now coordinates) ⌝ }
     requires { ⌜ 16385 ≤ length (now held) ⌝ }
@@ -233,40 +280,50 @@ pub(crate) fn feed_lines<'a>(
         have = s.count;
         used = s.used;
         if !s.more {
-            break;
+            return Taken {
+                at: at,
+                count: have,
+                used: used,
+                needed: s.needed,
+            };
         }
     }
-    Fed {
-        taken: at,
+    Taken {
+        at: at,
         count: have,
         used: used,
+        needed: 0,
     }
 }
 
-// The end of the input: a line that has a byte is answered.
-pub fn finish<'a>(held: &'a [u8], count: usize, out: &'a mut [u8]) -> Put
-    ensures told { λ r. ⌜ r ≡ Wire.finished (now (held .entry)) count (now (out .entry)) ⌝ }
+// The end of the input: a line that has a byte is answered. 16,385 bytes of output are always enough.
+pub fn finish<'a>(held: &'a [u8], count: usize, out: &'a mut [u8]) -> Last
+    ensures told { λ r. ⌜ r ≡ Wire.finish-told (now (held .entry)) count (now (out .entry)) ⌝ }
     ensures written { λ _. ⌜ now (out .exit) ≡ Wire.finish-written (now (held .entry)) count (now (out .entry)) ⌝ }
 {
     if held.len() < 16385 {
-        return Put {
-            fits: false,
+        return Last {
             used: 0,
+            outcome: Outcome::Unheld,
         };
     }
     if 16385 < count {
-        return Put {
-            fits: false,
+        return Last {
             used: 0,
+            outcome: Outcome::Miscounted,
         };
     }
     if count == 0 {
-        return Put {
-            fits: true,
+        return Last {
             used: 0,
+            outcome: Outcome::Whole,
         };
     }
     let mut lengths = [0usize; 999];
     let mut coordinates = [0.0; 962];
-    put_answer(&held[..count], &mut lengths, &mut coordinates, out, 0)
+    let p = put_answer(&held[..count], &mut lengths, &mut coordinates, out, 0);
+    Last {
+        used: p.used,
+        outcome: streaming::how_ended(p.fits, p.needed),
+    }
 }

@@ -1,32 +1,49 @@
--- `lizardwire::feed_block` is safe and ends: its turns fall. Assumes nothing.
+-- `lizardwire::feed_block` meets its contract, and ends: each turn takes a byte at least. Assumes nothing.
 use borrow.Author.Needs.{needs}
-use Prim.Native.Nat.{_≤_}
-use mathlib.Core.Path.{_≡_, refl}
+use Prim.Native.Nat.{ℕ, _-_, _≤_}
+use mathlib.Core.Path.{_≡_, refl, sym, _∙_, subst}
 use lib.ListN.{length}
+use denote.Ref.{now}
 use Rattle.wire.proofs.Answers.{counts-part}
+use Rattle.lizardwire.proofs.Turns.{Line, line-starts, turn-writes, turn-most, turn-room, turn-size, turn-in, turn-line, turn-goes, less-left, block-ends, block-fails}
 use Rattle.lizardwire.proofs.feed_block.Statement.{statement}
 use Rattle.lizardwire.proofs.feed_block.Tie as tie
 
 abbrev Inv-loop : tie.InvT-loop
-Inv-loop block held₀ count out₀ at₀ have₀ turns₀ held out at have turns = (length held ≡ length held₀) × (length out ≡ length out₀) × (at ≤ length block)
+Inv-loop block held₀ count out₀ at₀ have₀ held out at have =
+    (length held ≡ length held₀) × (length out ≡ length out₀) × (at ≤ length block) × (have ≤ 16385) × (16385 ≤ length held) × (16385 ≤ length out)
+    × Line block held₀ count at held have
 
 abbrev μ-loop : tie.MeasureT-loop
-μ-loop block held₀ count out₀ at₀ have₀ turns₀ held out at have turns = turns
+μ-loop block held₀ count out₀ at₀ have₀ held out at have = length block - at
 
 loop-holds : tie.Need-loop-holds Inv-loop μ-loop
-loop-holds c = (refl, refl, search needs)
+loop-holds c =
+    let a = c .before .before .before .args in
+    let p = c .before .before .before .pre in
+    (refl, refl, search needs, p .1 .0, p .0, p .1 .1, line-starts (now (a .block)) (now (a .held)) (a .count))
 
-sub-feed : tie.Need-sub-feed Inv-loop μ-loop
-sub-feed c = search needs
+next-turn-requires : tie.Need-next-turn-requires Inv-loop μ-loop
+next-turn-requires c κs = c .before .before .before .loop .inv .2
 
-part-feed-start : tie.Need-part-feed-start Inv-loop μ-loop
-part-feed-start c = search needs
+slice-reshare-prefix-write-all : tie.Need-slice-reshare-prefix-write-all Inv-loop μ-loop
+slice-reshare-prefix-write-all c =
+    let a = c .before .before .before .before .before .before .before .before .before .before .before .before .args in
+    let l = c .before .before .before .before .before .before .before .before .loop in
+    let i = l .inv in
+    let e = c .before .before .before .before .next-turn .ensures in
+    turn-writes (now (a .block)) (now (a .held)) (a .count) (l .at) (l .held) (l .have) (l .out) (i .2) (i .3) (i .4) _ _ _ (e .0) (e .1 .0) (e .1 .1)
 
-part-feed-end : tie.Need-part-feed-end Inv-loop μ-loop
-part-feed-end c = search needs
+slice-aggregate-write-all : tie.Need-slice-aggregate-write-all Inv-loop μ-loop
+slice-aggregate-write-all c =
+    let a = c .before .before .before .before .before .before .before .before .before .before .before .before .before .args in
+    let l = c .before .before .before .before .before .before .before .before .before .loop in
+    let i = l .inv in
+    let e = c .before .before .before .before .before .next-turn .ensures in
+    counts-part _ _ (turn-writes (now (a .block)) (now (a .held)) (a .count) (l .at) (l .held) (l .have) (l .out) (i .2) (i .3) (i .4) _ _ _ (e .0) (e .1 .0) (e .1 .1))
 
-feed-requires : tie.Need-feed-requires Inv-loop μ-loop
-feed-requires c κs = search needs
+write-all-requires : tie.Need-write-all-requires Inv-loop μ-loop
+write-all-requires c κs = search needs
 
 same-length : tie.Need-same-length Inv-loop μ-loop
 same-length c = search needs
@@ -35,16 +52,39 @@ same-length-2 : tie.Need-same-length-2 Inv-loop μ-loop
 same-length-2 c = search needs
 
 returns : tie.Need-returns Inv-loop μ-loop
-returns c = search needs
+returns c =
+    let a = c .before .before .before .before .before .before .before .before .before .before .before .before .before .before .before .args in
+    let l = c .before .before .before .before .before .before .before .before .before .before .before .loop in
+    let i = l .inv in
+    let e = c .before .before .before .before .before .before .before .next-turn .ensures in
+    block-fails (now (a .block)) (now (a .held)) (a .count) _ _ _ (turn-most (now (a .block)) (now (a .held)) (a .count) (l .at) (l .held) (l .have) (l .out) (i .2) (i .3) (i .4) _ _ _ (e .0) (e .1 .0) (e .1 .1))
 
-slice-reshare-prefix-write-all : tie.Need-slice-reshare-prefix-write-all Inv-loop μ-loop
-slice-reshare-prefix-write-all c = search needs
+loop-less : tie.Need-loop-less Inv-loop μ-loop
+loop-less c =
+    let a = c .before .before .before .before .before .before .before .before .before .before .before .before .before .before .before .args in
+    let l = c .before .before .before .before .before .before .before .before .before .before .before .loop in
+    let i = l .inv in
+    let e = c .before .before .before .before .before .before .before .next-turn .ensures in
+    let b = c .before .before .before .before .before .before .before .before .before .before .loop-test .taken in
+    let g = turn-goes (now (a .block)) (now (a .held)) (a .count) (l .at) (l .held) (l .have) (l .out) (i .2) (i .3) (i .4) _ _ _ (e .0) (e .1 .0) (e .1 .1) (i .5) b in
+    less-left (l .at) _ (length (now (a .block))) g b
 
-slice-aggregate-write-all : tie.Need-slice-aggregate-write-all Inv-loop μ-loop
-slice-aggregate-write-all c = counts-part _ _ (c .before .if1 .left)
-
-write-all-requires : tie.Need-write-all-requires Inv-loop μ-loop
-write-all-requires c κs = search needs
+loop-again : tie.Need-loop-again Inv-loop μ-loop
+loop-again c =
+    let a = c .before .before .before .before .before .before .before .before .before .before .before .before .before .before .before .args in
+    let l = c .before .before .before .before .before .before .before .before .before .before .before .loop in
+    let i = l .inv in
+    let e = c .before .before .before .before .before .before .before .next-turn .ensures in
+    let h = turn-room (now (a .block)) (now (a .held)) (a .count) (l .at) (l .held) (l .have) (l .out) (i .2) (i .3) (i .4) _ _ _ (e .0) (e .1 .0) (e .1 .1) in
+    let o = turn-size (now (a .block)) (now (a .held)) (a .count) (l .at) (l .held) (l .have) (l .out) (i .2) (i .3) (i .4) _ _ _ (e .0) (e .1 .0) (e .1 .1) in (
+      h ∙ i .0,
+      o ∙ i .1,
+      turn-in (now (a .block)) (now (a .held)) (a .count) (l .at) (l .held) (l .have) (l .out) (i .2) (i .3) (i .4) _ _ _ (e .0) (e .1 .0) (e .1 .1),
+      turn-most (now (a .block)) (now (a .held)) (a .count) (l .at) (l .held) (l .have) (l .out) (i .2) (i .3) (i .4) _ _ _ (e .0) (e .1 .0) (e .1 .1),
+      subst (λ (n : ℕ). 16385 ≤ n) (sym h) (i .4),
+      subst (λ (n : ℕ). 16385 ≤ n) (sym o) (i .5),
+      turn-line (now (a .block)) (now (a .held)) (a .count) (l .at) (l .held) (l .have) (l .out) (i .2) (i .3) (i .4) _ _ _ (e .0) (e .1 .0) (e .1 .1) (i .6),
+    )
 
 same-length-3 : tie.Need-same-length-3 Inv-loop μ-loop
 same-length-3 c = search needs
@@ -53,43 +93,10 @@ same-length-4 : tie.Need-same-length-4 Inv-loop μ-loop
 same-length-4 c = search needs
 
 returns-2 : tie.Need-returns-2 Inv-loop μ-loop
-returns-2 c = search needs
-
-sub-if3 : tie.Need-sub-if3 Inv-loop μ-loop
-sub-if3 c = search needs
-
-same-length-5 : tie.Need-same-length-5 Inv-loop μ-loop
-same-length-5 c = search needs
-
-same-length-6 : tie.Need-same-length-6 Inv-loop μ-loop
-same-length-6 c = search needs
-
-returns-3 : tie.Need-returns-3 Inv-loop μ-loop
-returns-3 c = search needs
-
-add-at : tie.Need-add-at Inv-loop μ-loop
-add-at c = search needs
-
-sub-turns-left : tie.Need-sub-turns-left Inv-loop μ-loop
-sub-turns-left c = search needs
-
-turns-left-requires : tie.Need-turns-left-requires Inv-loop μ-loop
-turns-left-requires c κs = search needs
-
-loop-less : tie.Need-loop-less Inv-loop μ-loop
-loop-less c = search needs
-
-loop-again : tie.Need-loop-again Inv-loop μ-loop
-loop-again c = (search needs, search needs, search needs)
-
-same-length-7 : tie.Need-same-length-7 Inv-loop μ-loop
-same-length-7 c = search needs
-
-same-length-8 : tie.Need-same-length-8 Inv-loop μ-loop
-same-length-8 c = search needs
-
-returns-4 : tie.Need-returns-4 Inv-loop μ-loop
-returns-4 c = search needs
+returns-2 c =
+    let a = c .before .before .before .before .before .args in
+    let l = c .before .loop in
+    block-ends (now (a .block)) (now (a .held)) (a .count) (l .at) (l .held) (l .have) _ (l .inv .2) (c .loop-test .left) (l .inv .3) (l .inv .6)
 
 pub feed-block-spec : {M : Type 1} → statement M
 feed-block-spec =
@@ -98,28 +105,15 @@ feed-block-spec =
     Inv-loop
     μ-loop
     loop-holds
-    sub-feed
-    part-feed-start
-    part-feed-end
-    feed-requires
-    same-length
-    same-length-2
-    returns
+    next-turn-requires
     slice-reshare-prefix-write-all
     slice-aggregate-write-all
     write-all-requires
-    same-length-3
-    same-length-4
-    returns-2
-    sub-if3
-    same-length-5
-    same-length-6
-    returns-3
-    add-at
-    sub-turns-left
-    turns-left-requires
+    same-length
+    same-length-2
+    returns
     loop-less
     loop-again
-    same-length-7
-    same-length-8
-    returns-4)
+    same-length-3
+    same-length-4
+    returns-2)

@@ -1,18 +1,21 @@
 -- `lizardwire::read_all` is safe and ends: its turns fall. Assumes nothing.
 use borrow.Author.Needs.{needs}
+use Prim.Native.Nat.{_≤_}
 use mathlib.Core.Path.{_≡_, refl}
 use lib.ListN.{length}
 use Rattle.lizardwire.proofs.read_all.Statement.{statement}
 use Rattle.lizardwire.proofs.read_all.Tie as tie
 
 abbrev Inv-loop : tie.InvT-loop
-Inv-loop block₀ held₀ out₀ count₀ turns₀ block held out count turns = (length block ≡ length block₀) × (length held ≡ length held₀) × (length out ≡ length out₀)
+Inv-loop block₀ held₀ out₀ count₀ turns₀ block held out count turns =
+    (length block ≡ length block₀) × (length held ≡ length held₀) × (length out ≡ length out₀) × (count ≤ 16385)
+    × (16385 ≤ length held) × (16385 ≤ length out)
 
 abbrev μ-loop : tie.MeasureT-loop
 μ-loop block₀ held₀ out₀ count₀ turns₀ block held out count turns = turns
 
 loop-holds : tie.Need-loop-holds Inv-loop μ-loop
-loop-holds c = (refl, refl, refl)
+loop-holds c = (refl, refl, refl, search needs, search needs, search needs)
 
 sub-turns : tie.Need-sub-turns Inv-loop μ-loop
 sub-turns c = search needs
@@ -36,7 +39,7 @@ loop-less : tie.Need-loop-less Inv-loop μ-loop
 loop-less c = search needs
 
 loop-again : tie.Need-loop-again Inv-loop μ-loop
-loop-again c = (search needs, search needs, search needs)
+loop-again c = (search needs, search needs, search needs, search needs, search needs, search needs)
 
 same-length-4 : tie.Need-same-length-4 Inv-loop μ-loop
 same-length-4 c = search needs

@@ -1,15 +1,34 @@
 -- `wire::feed` meets its contract. Assumes nothing.
 use borrow.Author.Needs.{needs}
 use denote.Ref.{now}
-use Rattle.wire.proofs.Steps.{short-held, much-held, stuck-told, stuck-held, stuck-out, fed-told, fed-held, fed-out}
+use Rattle.streaming.specs.declared.Outcome.the-variants.{Unheld, Miscounted}
+use Rattle.wire.proofs.Steps.{short-held, short-ends, much-held, much-ends, stuck-told, stuck-held, stuck-out, fed-told, fed-held, fed-out}
 use Rattle.wire.proofs.feed.Statement.{statement}
 use Rattle.wire.proofs.feed.Tie as tie
 
 returns : tie.Need-returns
-returns c = let m = short-held (now (c .before .before .before .before .args .block)) (now (c .before .before .before .before .args .held)) (c .before .before .before .before .args .count) (now (c .before .before .before .before .args .out)) (c .if1 .taken) in (stuck-told (now (c .before .before .before .before .args .block)) (now (c .before .before .before .before .args .held)) (c .before .before .before .before .args .count) (now (c .before .before .before .before .args .out)) m, (stuck-held (now (c .before .before .before .before .args .block)) (now (c .before .before .before .before .args .held)) (c .before .before .before .before .args .count) (now (c .before .before .before .before .args .out)) m, stuck-out (now (c .before .before .before .before .args .block)) (now (c .before .before .before .before .args .held)) (c .before .before .before .before .args .count) (now (c .before .before .before .before .args .out)) m))
+returns c =
+    let a = c .before .before .before .before .args in
+    let n = short-held (now (a .block)) (now (a .held)) (a .count) (now (a .out)) (c .if1 .taken) in
+    let e = short-ends (now (a .block)) (now (a .held)) (a .count) (now (a .out)) (c .if1 .taken) in (
+      stuck-told (now (a .block)) (now (a .held)) (a .count) (now (a .out)) n Unheld e,
+      (
+        stuck-held (now (a .block)) (now (a .held)) (a .count) (now (a .out)) n Unheld e,
+        stuck-out (now (a .block)) (now (a .held)) (a .count) (now (a .out)) n Unheld e,
+      ),
+    )
 
 returns-2 : tie.Need-returns-2
-returns-2 c = let m = much-held (now (c .before .before .before .before .before .args .block)) (now (c .before .before .before .before .before .args .held)) (c .before .before .before .before .before .args .count) (now (c .before .before .before .before .before .args .out)) (c .before .if1 .left) (c .if2 .taken) in (stuck-told (now (c .before .before .before .before .before .args .block)) (now (c .before .before .before .before .before .args .held)) (c .before .before .before .before .before .args .count) (now (c .before .before .before .before .before .args .out)) m, (stuck-held (now (c .before .before .before .before .before .args .block)) (now (c .before .before .before .before .before .args .held)) (c .before .before .before .before .before .args .count) (now (c .before .before .before .before .before .args .out)) m, stuck-out (now (c .before .before .before .before .before .args .block)) (now (c .before .before .before .before .before .args .held)) (c .before .before .before .before .before .args .count) (now (c .before .before .before .before .before .args .out)) m))
+returns-2 c =
+    let a = c .before .before .before .before .before .args in
+    let n = much-held (now (a .block)) (now (a .held)) (a .count) (now (a .out)) (c .before .if1 .left) (c .if2 .taken) in
+    let e = much-ends (now (a .block)) (now (a .held)) (a .count) (now (a .out)) (c .before .if1 .left) (c .if2 .taken) in (
+      stuck-told (now (a .block)) (now (a .held)) (a .count) (now (a .out)) n Miscounted e,
+      (
+        stuck-held (now (a .block)) (now (a .held)) (a .count) (now (a .out)) n Miscounted e,
+        stuck-out (now (a .block)) (now (a .held)) (a .count) (now (a .out)) n Miscounted e,
+      ),
+    )
 
 slice-aggregate-feed-lines : tie.Need-slice-aggregate-feed-lines
 slice-aggregate-feed-lines c = search needs
@@ -20,6 +39,9 @@ slice-aggregate-feed-lines-2 c = search needs
 feed-lines-requires : tie.Need-feed-lines-requires
 feed-lines-requires c κs = search needs
 
+how-ended-requires : tie.Need-how-ended-requires
+how-ended-requires c κs = search needs
+
 same-length : tie.Need-same-length
 same-length c = search needs
 
@@ -27,7 +49,17 @@ same-length-2 : tie.Need-same-length-2
 same-length-2 c = search needs
 
 returns-3 : tie.Need-returns-3
-returns-3 c = (fed-told (now (c .before .before .before .before .before .before .before .before .before .before .before .before .before .before .before .before .args .block)) (now (c .before .before .before .before .before .before .before .before .before .before .before .before .before .before .before .before .args .held)) (c .before .before .before .before .before .before .before .before .before .before .before .before .before .before .before .before .args .count) (now (c .before .before .before .before .before .before .before .before .before .before .before .before .before .before .before .before .args .out)) (c .before .before .before .before .before .before .before .before .before .before .before .before .if1 .left) (c .before .before .before .before .before .before .before .before .before .before .before .if2 .left) _ (c .before .before .before .before .before .before .feed-lines .ensures .0), (fed-held (now (c .before .before .before .before .before .before .before .before .before .before .before .before .before .before .before .before .args .block)) (now (c .before .before .before .before .before .before .before .before .before .before .before .before .before .before .before .before .args .held)) (c .before .before .before .before .before .before .before .before .before .before .before .before .before .before .before .before .args .count) (now (c .before .before .before .before .before .before .before .before .before .before .before .before .before .before .before .before .args .out)) (c .before .before .before .before .before .before .before .before .before .before .before .before .if1 .left) (c .before .before .before .before .before .before .before .before .before .before .before .if2 .left) _ (c .before .before .before .before .before .before .feed-lines .ensures .1 .0), fed-out (now (c .before .before .before .before .before .before .before .before .before .before .before .before .before .before .before .before .args .block)) (now (c .before .before .before .before .before .before .before .before .before .before .before .before .before .before .before .before .args .held)) (c .before .before .before .before .before .before .before .before .before .before .before .before .before .before .before .before .args .count) (now (c .before .before .before .before .before .before .before .before .before .before .before .before .before .before .before .before .args .out)) (c .before .before .before .before .before .before .before .before .before .before .before .before .if1 .left) (c .before .before .before .before .before .before .before .before .before .before .before .if2 .left) _ (c .before .before .before .before .before .before .feed-lines .ensures .1 .1)))
+returns-3 c =
+    let a = c .before .before .before .before .before .before .before .before .before .before .before .before .before .before .before .before .before .before .args in
+    let h = c .before .before .before .before .before .before .before .before .before .before .before .before .before .before .if1 .left in
+    let m = c .before .before .before .before .before .before .before .before .before .before .before .before .before .if2 .left in
+    let t = c .before .before .before .before .before .before .before .before .feed-lines .ensures in (
+      fed-told (now (a .block)) (now (a .held)) (a .count) (now (a .out)) h m _ _ (t .0) (c .how-ended .ensures),
+      (
+        fed-held (now (a .block)) (now (a .held)) (a .count) (now (a .out)) h m _ (t .1 .0),
+        fed-out (now (a .block)) (now (a .held)) (a .count) (now (a .out)) h m _ (t .1 .1),
+      ),
+    )
 
 pub feed-spec : {M : Type 1} → statement M
 feed-spec =
@@ -38,6 +70,7 @@ feed-spec =
     slice-aggregate-feed-lines
     slice-aggregate-feed-lines-2
     feed-lines-requires
+    how-ended-requires
     same-length
     same-length-2
     returns-3)

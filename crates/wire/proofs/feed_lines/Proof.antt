@@ -45,7 +45,18 @@ same-length-4 : tie.Need-same-length-4 Inv-loop μ-loop
 same-length-4 c = search needs
 
 returns : tie.Need-returns Inv-loop μ-loop
-returns c = (end-told (now (c .before .before .before .before .before .before .before .args .block)) (now (c .before .before .before .before .before .before .before .args .held)) _ (now (c .before .before .before .before .before .before .before .args .out)) _ _ _ _ _ _ (c .before .loop .inv .9) (c .before .loop .inv .0) (c .loop-test .left), (end-held (now (c .before .before .before .before .before .before .before .args .block)) (now (c .before .before .before .before .before .before .before .args .held)) _ (now (c .before .before .before .before .before .before .before .args .out)) _ _ _ _ _ _ (c .before .loop .inv .9) (c .before .loop .inv .0) (c .loop-test .left), end-out (now (c .before .before .before .before .before .before .before .args .block)) (now (c .before .before .before .before .before .before .before .args .held)) _ (now (c .before .before .before .before .before .before .before .args .out)) _ _ _ _ _ _ (c .before .loop .inv .9) (c .before .loop .inv .0) (c .loop-test .left)))
+returns c =
+    let a = c .before .before .before .before .before .before .before .before .before .before .before .before .before .before .before .before .before .before .before .before .before .before .args in
+    let l = c .before .before .before .before .before .before .before .before .before .before .before .before .before .before .before .before .loop in
+    let e = c .before .before .before .before .before .before .before .before .before .before .feed-line .ensures in
+    let m = c .if1 .taken in
+    let b = c .before .before .before .before .before .before .before .before .before .before .before .before .before .before .before .loop-test .taken in (
+      stop-told (now (a .block)) (now (a .held)) (a .count) (now (a .out)) (l .k) (l .at) (l .held) (l .have) (l .out) (l .used) (l .inv .9) _ _ _ (e .0) (e .1 .0) (e .1 .1) m b,
+      (
+        stop-held (now (a .block)) (now (a .held)) (a .count) (now (a .out)) (l .k) (l .at) (l .held) (l .have) (l .out) (l .used) (l .inv .9) _ _ _ (e .0) (e .1 .0) (e .1 .1) m b,
+        stop-out (now (a .block)) (now (a .held)) (a .count) (now (a .out)) (l .k) (l .at) (l .held) (l .have) (l .out) (l .used) (l .inv .9) _ _ _ (e .0) (e .1 .0) (e .1 .1) m b,
+      ),
+    )
 
 same-length-5 : tie.Need-same-length-5 Inv-loop μ-loop
 same-length-5 c = search needs
@@ -60,7 +71,16 @@ same-length-8 : tie.Need-same-length-8 Inv-loop μ-loop
 same-length-8 c = search needs
 
 returns-2 : tie.Need-returns-2 Inv-loop μ-loop
-returns-2 c = (stop-told (now (c .before .before .before .before .before .before .before .before .before .before .before .before .before .before .before .before .before .before .before .before .before .before .args .block)) (now (c .before .before .before .before .before .before .before .before .before .before .before .before .before .before .before .before .before .before .before .before .before .before .args .held)) _ (now (c .before .before .before .before .before .before .before .before .before .before .before .before .before .before .before .before .before .before .before .before .before .before .args .out)) _ _ _ _ _ _ (c .before .before .before .before .before .before .before .before .before .before .before .before .before .before .before .before .loop .inv .9) _ _ _ (c .before .before .before .before .before .before .before .before .before .before .feed-line .ensures .0) (c .before .before .before .before .before .before .before .before .before .before .feed-line .ensures .1 .0) (c .before .before .before .before .before .before .before .before .before .before .feed-line .ensures .1 .1) (c .if1 .taken) (c .before .before .before .before .before .before .before .before .before .before .before .before .before .before .before .loop-test .taken), (stop-held (now (c .before .before .before .before .before .before .before .before .before .before .before .before .before .before .before .before .before .before .before .before .before .before .args .block)) (now (c .before .before .before .before .before .before .before .before .before .before .before .before .before .before .before .before .before .before .before .before .before .before .args .held)) _ (now (c .before .before .before .before .before .before .before .before .before .before .before .before .before .before .before .before .before .before .before .before .before .before .args .out)) _ _ _ _ _ _ (c .before .before .before .before .before .before .before .before .before .before .before .before .before .before .before .before .loop .inv .9) _ _ _ (c .before .before .before .before .before .before .before .before .before .before .feed-line .ensures .0) (c .before .before .before .before .before .before .before .before .before .before .feed-line .ensures .1 .0) (c .before .before .before .before .before .before .before .before .before .before .feed-line .ensures .1 .1) (c .if1 .taken) (c .before .before .before .before .before .before .before .before .before .before .before .before .before .before .before .loop-test .taken), stop-out (now (c .before .before .before .before .before .before .before .before .before .before .before .before .before .before .before .before .before .before .before .before .before .before .args .block)) (now (c .before .before .before .before .before .before .before .before .before .before .before .before .before .before .before .before .before .before .before .before .before .before .args .held)) _ (now (c .before .before .before .before .before .before .before .before .before .before .before .before .before .before .before .before .before .before .before .before .before .before .args .out)) _ _ _ _ _ _ (c .before .before .before .before .before .before .before .before .before .before .before .before .before .before .before .before .loop .inv .9) _ _ _ (c .before .before .before .before .before .before .before .before .before .before .feed-line .ensures .0) (c .before .before .before .before .before .before .before .before .before .before .feed-line .ensures .1 .0) (c .before .before .before .before .before .before .before .before .before .before .feed-line .ensures .1 .1) (c .if1 .taken) (c .before .before .before .before .before .before .before .before .before .before .before .before .before .before .before .loop-test .taken)))
+returns-2 c =
+    let a = c .before .before .before .before .before .before .before .args in
+    let l = c .before .loop in
+    let b = c .loop-test .left in (
+      end-told (now (a .block)) (now (a .held)) (a .count) (now (a .out)) (l .k) (l .at) (l .held) (l .have) (l .out) (l .used) (l .inv .9) (l .inv .0) b,
+      (
+        end-held (now (a .block)) (now (a .held)) (a .count) (now (a .out)) (l .k) (l .at) (l .held) (l .have) (l .out) (l .used) (l .inv .9) (l .inv .0) b,
+        end-out (now (a .block)) (now (a .held)) (a .count) (now (a .out)) (l .k) (l .at) (l .held) (l .have) (l .out) (l .used) (l .inv .9) (l .inv .0) b,
+      ),
+    )
 
 pub feed-lines-spec : {M : Type 1} → statement M
 feed-lines-spec =
@@ -71,13 +91,13 @@ feed-lines-spec =
     loop-holds
     add-k
     feed-line-requires
-    loop-less
-    loop-again
     same-length
     same-length-2
     same-length-3
     same-length-4
     returns
+    loop-less
+    loop-again
     same-length-5
     same-length-6
     same-length-7

@@ -3,19 +3,32 @@ use borrow.Author.Needs.{needs}
 use native.Mathlib.Nat.{le-trans}
 use mathlib.Core.List.{[]}
 use denote.Ref.{now}
-use Rattle.wire.proofs.Steps.{short-held, much-held, unheld-told, unheld-written, none-told, none-written, last-told, last-written}
+use Rattle.streaming.specs.declared.Outcome.the-variants.{Unheld, Miscounted}
+use Rattle.wire.proofs.Steps.{short-held, short-ends, much-held, much-ends, unheld-told, unheld-written, none-told, none-written, last-told, last-written}
 use Rattle.wire.proofs.Answers.{counts-part}
 use Rattle.wire.proofs.finish.Statement.{statement}
 use Rattle.wire.proofs.finish.Tie as tie
 
 returns : tie.Need-returns
-returns c = let m = short-held [] (now (c .before .before .before .args .held)) _ (now (c .before .before .before .args .out)) (c .if1 .taken) in (unheld-told [] (now (c .before .before .before .args .held)) _ (now (c .before .before .before .args .out)) m, unheld-written [] (now (c .before .before .before .args .held)) _ (now (c .before .before .before .args .out)) m)
+returns c =
+    let a = c .before .before .before .args in
+    let n = short-held [] (now (a .held)) (a .count) (now (a .out)) (c .if1 .taken) in
+    let e = short-ends [] (now (a .held)) (a .count) (now (a .out)) (c .if1 .taken) in
+    (unheld-told [] (now (a .held)) (a .count) (now (a .out)) n Unheld e, unheld-written [] (now (a .held)) (a .count) (now (a .out)) n Unheld e)
 
 returns-2 : tie.Need-returns-2
-returns-2 c = let m = much-held [] (now (c .before .before .before .before .args .held)) _ (now (c .before .before .before .before .args .out)) (c .before .if1 .left) (c .if2 .taken) in (unheld-told [] (now (c .before .before .before .before .args .held)) _ (now (c .before .before .before .before .args .out)) m, unheld-written [] (now (c .before .before .before .before .args .held)) _ (now (c .before .before .before .before .args .out)) m)
+returns-2 c =
+    let a = c .before .before .before .before .args in
+    let n = much-held [] (now (a .held)) (a .count) (now (a .out)) (c .before .if1 .left) (c .if2 .taken) in
+    let e = much-ends [] (now (a .held)) (a .count) (now (a .out)) (c .before .if1 .left) (c .if2 .taken) in
+    (unheld-told [] (now (a .held)) (a .count) (now (a .out)) n Miscounted e, unheld-written [] (now (a .held)) (a .count) (now (a .out)) n Miscounted e)
 
 returns-3 : tie.Need-returns-3
-returns-3 c = (none-told [] (now (c .before .before .before .before .before .args .held)) _ (now (c .before .before .before .before .before .args .out)) (c .before .before .if1 .left) (c .before .if2 .left) (c .if3 .taken), none-written [] (now (c .before .before .before .before .before .args .held)) _ (now (c .before .before .before .before .before .args .out)) (c .before .before .if1 .left) (c .before .if2 .left) (c .if3 .taken))
+returns-3 c =
+    let a = c .before .before .before .before .before .args in (
+      none-told [] (now (a .held)) (a .count) (now (a .out)) (c .before .before .if1 .left) (c .before .if2 .left) (c .if3 .taken),
+      none-written [] (now (a .held)) (a .count) (now (a .out)) (c .before .before .if1 .left) (c .before .if2 .left) (c .if3 .taken),
+    )
 
 slice-aggregate-put-answer : tie.Need-slice-aggregate-put-answer
 slice-aggregate-put-answer c = counts-part _ _ (le-trans (c .before .before .if2 .left) (c .before .before .before .if1 .left))
@@ -29,11 +42,22 @@ slice-aggregate-put-answer-3 c = search needs
 put-answer-requires : tie.Need-put-answer-requires
 put-answer-requires c κs = search needs
 
+how-ended-requires : tie.Need-how-ended-requires
+how-ended-requires c κs = search needs
+
 same-length : tie.Need-same-length
 same-length c = search needs
 
 returns-4 : tie.Need-returns-4
-returns-4 c = (last-told [] (now (c .before .before .before .before .before .before .before .before .before .before .before .before .before .before .args .held)) _ (now (c .before .before .before .before .before .before .before .before .before .before .before .before .before .before .args .out)) (c .before .before .before .before .before .before .before .before .before .before .before .if1 .left) (c .before .before .before .before .before .before .before .before .before .before .if2 .left) (c .before .before .before .before .before .before .before .before .before .if3 .left) _ (c .before .before .before .before .put-answer .ensures .0), last-written [] (now (c .before .before .before .before .before .before .before .before .before .before .before .before .before .before .args .held)) _ (now (c .before .before .before .before .before .before .before .before .before .before .before .before .before .before .args .out)) (c .before .before .before .before .before .before .before .before .before .before .before .if1 .left) (c .before .before .before .before .before .before .before .before .before .before .if2 .left) (c .before .before .before .before .before .before .before .before .before .if3 .left) _ (c .before .before .before .before .put-answer .ensures .1))
+returns-4 c =
+    let a = c .before .before .before .before .before .before .before .before .before .before .before .before .before .before .before .args in
+    let h = c .before .before .before .before .before .before .before .before .before .before .before .before .if1 .left in
+    let m = c .before .before .before .before .before .before .before .before .before .before .before .if2 .left in
+    let z = c .before .before .before .before .before .before .before .before .before .before .if3 .left in
+    let p = c .before .before .before .before .before .put-answer .ensures in (
+      last-told [] (now (a .held)) (a .count) (now (a .out)) h m z _ _ (p .0) (c .how-ended .ensures),
+      last-written [] (now (a .held)) (a .count) (now (a .out)) h m z _ (p .1),
+    )
 
 pub finish-spec : {M : Type 1} → statement M
 finish-spec =
@@ -46,5 +70,6 @@ finish-spec =
     slice-aggregate-put-answer-2
     slice-aggregate-put-answer-3
     put-answer-requires
+    how-ended-requires
     same-length
     returns-4)

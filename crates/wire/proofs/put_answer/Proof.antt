@@ -1,10 +1,7 @@
 -- `wire::put_answer` meets its contract. Assumes nothing.
 use borrow.Author.Needs.{needs}
-use mathlib.Core.Path.{refl}
-use lib.ListN.{length}
 use denote.Ref.{now}
-use Rattle.jobs.specs.Lines.{answer-line}
-use Rattle.wire.proofs.Puts.{far, end-in, yes-size, yes-told, yes-written, no-told, no-written, not-told, not-written}
+use Rattle.wire.proofs.Puts.{needed-in, end-in, yes-size, yes-told, yes-written, no-told, no-written, end-told, end-written}
 use Rattle.wire.proofs.put_answer.Statement.{statement}
 use Rattle.wire.proofs.put_answer.Tie as tie
 
@@ -27,13 +24,43 @@ granted-requires : tie.Need-granted-requires
 granted-requires c κs = search needs
 
 add-end : tie.Need-add-end
-add-end c = let m = end-in (now (c .before .before .before .before .before .before .before .before .before .before .before .before .before .before .before .before .before .before .args .line)) (now (c .before .before .before .before .before .before .before .before .before .before .before .before .before .before .before .before .before .before .args .out)) (c .before .before .before .before .before .before .before .before .before .before .before .before .before .before .before .before .before .before .args .used) (c .before .before .before .before .before .before .before .before .before .before .before .before .before .if1 .taken) _ (c .before .before .before .before .before .before .before .before .before .answer-with .ensures .0) _ (c .before .before .granted .ensures) (c .before .if2 .taken) in search needs
+add-end c =
+    let a = c .before .before .before .before .before .before .before .before .before .before .before .before .before .before .before .before .before .before .args in
+    let h = c .before .before .before .before .before .before .before .before .before .before .before .before .before .if1 .taken in
+    let e = c .before .before .before .before .before .before .before .before .before .answer-with .ensures in
+    let g = c .before .before .granted .ensures in
+    let t = c .before .if2 .taken in
+    let m = end-in (now (a .line)) (now (a .out)) (a .used) h _ (e .0) _ g t in
+    search needs
 
 slice-write-out : tie.Need-slice-write-out
-slice-write-out c = yes-size (now (c .before .before .before .before .before .before .before .before .before .before .before .before .before .before .before .before .before .before .args .line)) (now (c .before .before .before .before .before .before .before .before .before .before .before .before .before .before .before .before .before .before .args .out)) (c .before .before .before .before .before .before .before .before .before .before .before .before .before .before .before .before .before .before .args .used) (c .before .before .before .before .before .before .before .before .before .before .before .before .before .if1 .taken) _ (c .before .before .before .before .before .before .before .before .before .answer-with .ensures .0) _ (c .before .before .granted .ensures) (c .before .if2 .taken) _ (c .before .before .before .before .before .before .before .before .before .answer-with .ensures .1)
+slice-write-out c =
+    let a = c .before .before .before .before .before .before .before .before .before .before .before .before .before .before .before .before .before .before .args in
+    let h = c .before .before .before .before .before .before .before .before .before .before .before .before .before .if1 .taken in
+    let e = c .before .before .before .before .before .before .before .before .before .answer-with .ensures in
+    let g = c .before .before .granted .ensures in
+    let t = c .before .if2 .taken in
+    yes-size (now (a .line)) (now (a .out)) (a .used) h _ (e .0) _ g t _ (e .1)
 
-add-t22 : tie.Need-add-t22
-add-t22 c = let m = end-in (now (c .before .before .before .before .before .before .before .before .before .before .before .before .before .before .before .before .before .before .args .line)) (now (c .before .before .before .before .before .before .before .before .before .before .before .before .before .before .before .before .before .before .args .out)) (c .before .before .before .before .before .before .before .before .before .before .before .before .before .before .before .before .before .before .args .used) (c .before .before .before .before .before .before .before .before .before .before .before .before .before .if1 .taken) _ (c .before .before .before .before .before .before .before .before .before .answer-with .ensures .0) _ (c .before .before .granted .ensures) (c .before .if2 .taken) in search needs
+add-t23 : tie.Need-add-t23
+add-t23 c =
+    let a = c .before .before .before .before .before .before .before .before .before .before .before .before .before .before .before .before .before .before .args in
+    let h = c .before .before .before .before .before .before .before .before .before .before .before .before .before .if1 .taken in
+    let e = c .before .before .before .before .before .before .before .before .before .answer-with .ensures in
+    let g = c .before .before .granted .ensures in
+    let t = c .before .if2 .taken in
+    let m = end-in (now (a .line)) (now (a .out)) (a .used) h _ (e .0) _ g t in
+    search needs
+
+add-t24 : tie.Need-add-t24
+add-t24 c =
+    let a = c .before .before .before .before .before .before .before .before .before .before .before .before .before .before .before .before .before .before .before .args in
+    let h = c .before .before .before .before .before .before .before .before .before .before .before .before .before .before .if1 .taken in
+    let e = c .before .before .before .before .before .before .before .before .before .before .answer-with .ensures in
+    let g = c .before .before .before .granted .ensures in
+    let t = c .before .before .if2 .taken in
+    let m = end-in (now (a .line)) (now (a .out)) (a .used) h _ (e .0) _ g t in
+    search needs
 
 same-length : tie.Need-same-length
 same-length c = search needs
@@ -45,7 +72,18 @@ same-length-3 : tie.Need-same-length-3
 same-length-3 c = search needs
 
 returns : tie.Need-returns
-returns c = (yes-told (now (c .before .before .before .before .before .before .before .before .before .before .before .before .before .before .before .before .before .before .args .line)) (now (c .before .before .before .before .before .before .before .before .before .before .before .before .before .before .before .before .before .before .args .out)) (c .before .before .before .before .before .before .before .before .before .before .before .before .before .before .before .before .before .before .args .used) (c .before .before .before .before .before .before .before .before .before .before .before .before .before .if1 .taken) _ (c .before .before .before .before .before .before .before .before .before .answer-with .ensures .0) _ (c .before .before .granted .ensures) (c .before .if2 .taken), yes-written (now (c .before .before .before .before .before .before .before .before .before .before .before .before .before .before .before .before .before .before .args .line)) (now (c .before .before .before .before .before .before .before .before .before .before .before .before .before .before .before .before .before .before .args .out)) (c .before .before .before .before .before .before .before .before .before .before .before .before .before .before .before .before .before .before .args .used) (c .before .before .before .before .before .before .before .before .before .before .before .before .before .if1 .taken) _ (c .before .before .before .before .before .before .before .before .before .answer-with .ensures .0) _ (c .before .before .granted .ensures) (c .before .if2 .taken) _ (c .before .before .before .before .before .before .before .before .before .answer-with .ensures .1))
+returns c =
+    let a = c .before .before .before .before .before .before .before .before .before .before .before .before .before .before .before .before .before .before .before .args in
+    let h = c .before .before .before .before .before .before .before .before .before .before .before .before .before .before .if1 .taken in
+    let e = c .before .before .before .before .before .before .before .before .before .before .answer-with .ensures in
+    let g = c .before .before .before .granted .ensures in
+    let t = c .before .before .if2 .taken in
+    (yes-told (now (a .line)) (now (a .out)) (a .used) h _ (e .0) _ g t, yes-written (now (a .line)) (now (a .out)) (a .used) h _ (e .0) _ g t _ (e .1))
+
+bytes-needed-requires : tie.Need-bytes-needed-requires
+bytes-needed-requires c κs =
+    let a = c .before .before .before .before .before .before .before .before .before .before .before .before .before .before .before .before .before .args in
+    needed-in (now (a .line)) _ _ (c .before .before .before .before .before .before .before .before .answer-with .ensures .0)
 
 same-length-4 : tie.Need-same-length-4
 same-length-4 c = search needs
@@ -57,10 +95,46 @@ same-length-6 : tie.Need-same-length-6
 same-length-6 c = search needs
 
 returns-2 : tie.Need-returns-2
-returns-2 c = (no-told (now (c .before .before .before .before .before .before .before .before .before .before .before .before .before .before .before .before .before .args .line)) (now (c .before .before .before .before .before .before .before .before .before .before .before .before .before .before .before .before .before .args .out)) (c .before .before .before .before .before .before .before .before .before .before .before .before .before .before .before .before .before .args .used) (c .before .before .before .before .before .before .before .before .before .before .before .before .if1 .taken) _ (c .before .before .before .before .before .before .before .before .answer-with .ensures .0) _ (c .before .granted .ensures) (c .if2 .left), no-written (now (c .before .before .before .before .before .before .before .before .before .before .before .before .before .before .before .before .before .args .line)) (now (c .before .before .before .before .before .before .before .before .before .before .before .before .before .before .before .before .before .args .out)) (c .before .before .before .before .before .before .before .before .before .before .before .before .before .before .before .before .before .args .used) (c .before .before .before .before .before .before .before .before .before .before .before .before .if1 .taken) _ (c .before .before .before .before .before .before .before .before .answer-with .ensures .0) _ (c .before .granted .ensures) (c .if2 .left) _ (c .before .before .before .before .before .before .before .before .answer-with .ensures .1))
+returns-2 c =
+    let a = c .before .before .before .before .before .before .before .before .before .before .before .before .before .before .before .before .before .before .args in
+    let h = c .before .before .before .before .before .before .before .before .before .before .before .before .before .if1 .taken in
+    let e = c .before .before .before .before .before .before .before .before .before .answer-with .ensures in
+    let g = c .before .before .granted .ensures in
+    let t = c .before .if2 .left in
+    (no-told (now (a .line)) (now (a .out)) (a .used) h _ (e .0) _ g t _ (c .bytes-needed .ensures), no-written (now (a .line)) (now (a .out)) (a .used) h _ (e .0) _ g t _ (e .1))
+
+sub-answer-with-3 : tie.Need-sub-answer-with-3
+sub-answer-with-3 c = search needs
+
+part-answer-with-start-2 : tie.Need-part-answer-with-start-2
+part-answer-with-start-2 c = search needs
+
+part-answer-with-end-2 : tie.Need-part-answer-with-end-2
+part-answer-with-end-2 c = search needs
+
+answer-with-requires-2 : tie.Need-answer-with-requires-2
+answer-with-requires-2 c κs = search needs
+
+bytes-needed-requires-2 : tie.Need-bytes-needed-requires-2
+bytes-needed-requires-2 c κs =
+    let a = c .before .before .before .before .before .before .before .before .before .before .before .before .before .before .before .args in
+    needed-in (now (a .line)) _ _ (c .before .before .before .before .before .before .answer-with2 .ensures .0)
+
+same-length-7 : tie.Need-same-length-7
+same-length-7 c = search needs
+
+same-length-8 : tie.Need-same-length-8
+same-length-8 c = search needs
+
+same-length-9 : tie.Need-same-length-9
+same-length-9 c = search needs
 
 returns-3 : tie.Need-returns-3
-returns-3 c = let m = far _ _ (length (answer-line (now (c .before .before .before .before .before .args .line)))) (c .if1 .left) in (not-told _ (now (c .before .before .before .before .before .args .out)) _ m, not-written _ (now (c .before .before .before .before .before .args .out)) _ _ m refl)
+returns-3 c =
+    let a = c .before .before .before .before .before .before .before .before .before .before .before .before .before .before .before .before .args in
+    let h = c .before .before .before .before .before .before .before .before .before .before .before .if1 .left in
+    let e = c .before .before .before .before .before .before .before .answer-with2 .ensures in
+    (end-told (now (a .line)) (now (a .out)) (a .used) h _ _ (e .0) _ (c .bytes-needed2 .ensures), end-written (now (a .line)) (now (a .out)) (a .used) h _ (e .1))
 
 pub put-answer-spec : {M : Type 1} → statement M
 put-answer-spec =
@@ -74,13 +148,23 @@ put-answer-spec =
     granted-requires
     add-end
     slice-write-out
-    add-t22
+    add-t23
+    add-t24
     same-length
     same-length-2
     same-length-3
     returns
+    bytes-needed-requires
     same-length-4
     same-length-5
     same-length-6
     returns-2
+    sub-answer-with-3
+    part-answer-with-start-2
+    part-answer-with-end-2
+    answer-with-requires-2
+    bytes-needed-requires-2
+    same-length-7
+    same-length-8
+    same-length-9
     returns-3)

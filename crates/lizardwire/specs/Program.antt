@@ -1,0 +1,30 @@
+-- What a turn of the program's loop hands back, and what is held after a block, with the memory that is lent. What is read and what is
+-- written is outside these. Assumes nothing.
+use Prim.Native.Nat.{ℕ, _+_, _≤_}
+use mathlib.Core.Bool.{false}
+use mathlib.Core.Path.{_≡_}
+use mathlib.Core.List.{List, []}
+use lib.ListN.{take, drop}
+use Rattle.jobs.specs.Stream.{block-taken}
+use Rattle.streaming.specs.Feeding.{most-held, Feed, machine}
+use Rattle.wire.specs.Wire.{stream-fed}
+use Rattle.lizardwire.specs.declared.Turn.{Turn}
+use Rattle.lizardwire.specs.declared.Run.{Run}
+
+-- a turn is a call on the block's bytes from `at` on
+abbrev pub turn-fed : List ℕ → ℕ → List ℕ → ℕ → List ℕ → Feed
+turn-fed block at held count out = stream-fed (drop at block) held count out
+
+-- after it: what the stream took of the rest is taken of the block, and what it put into the output is to be written
+unfoldable pub turn-told : ℕ → Feed → Turn
+turn-told at s = record { at = at + s .at; count = s .count; used = s .used }
+
+-- after a block, if no write failed: what is held is the line of the byte machine, fed the whole block
+pub record BlockTaken (block held : List ℕ) (count : ℕ) (after : List ℕ) (r : Run) : Type 0 where
+  pub most : r .count ≤ most-held
+  pub line : r .failed ≡ false → take (r .count) after ≡ (block-taken (machine held count []) block) .line
+
+-- opens the definition above
+unfoldable pub open-program : Unit {0}
+unfolding turn-told
+open-program = tt
