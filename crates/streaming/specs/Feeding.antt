@@ -9,6 +9,8 @@ use lib.ListN.{length, take, drop}
 use Rattle.loops.specs.Loop.{rounds}
 use Rattle.digits.specs.Stores.{put}
 use Rattle.jobs.specs.Fields.{line-feed}
+use Rattle.error.specs.declared.Refusal.{Refusal}
+use Rattle.error.specs.declared.Refusal.the-variants.{Granted, Short, Shape}
 use Rattle.streaming.specs.declared.Next.{Next}
 use Rattle.streaming.specs.declared.Outcome.{Outcome}
 use Rattle.streaming.specs.declared.Outcome.the-variants.{Whole, Full, Unheld, Miscounted}
@@ -144,6 +146,14 @@ how-ended whole needed = cond whole Whole (Full needed)
 unfoldable pub memory-outcome : List ℕ → ℕ → Outcome → Outcome
 memory-outcome held count o = cond (leb most-held (length held)) (cond (leb count most-held) o Miscounted) Unheld
 
+-- "When an answer is an enum, a definition gives this paper's number and values for each of its cases": 20 with the bytes needed, of the output
+-- or of the memory for a cut line, and 21 of a count that no call hands back
+unfoldable pub outcome-refusal : Outcome → Refusal
+outcome-refusal Whole = Granted
+outcome-refusal (Full needed) = Short needed
+outcome-refusal Unheld = Short most-held
+outcome-refusal Miscounted = Shape
+
 -- ---- what is to hold
 
 -- the machine in the state that is held
@@ -185,5 +195,5 @@ AnyCalls = (held : List ℕ) (calls : List Call) → most-held ≤ length held �
 
 -- opens every definition above, for a proof that computes with all of them
 unfoldable pub open-feeding : Unit {0}
-unfolding before-by before-feed line-end line-part held-with count-with is-ended is-direct next-count next-held next-bytes next-of feed-cut feed-answered feed-full feed-ended feed-line feed-step feed-start fed how-ended memory-outcome call-fed all-taken all-written
+unfolding before-by before-feed line-end line-part held-with count-with is-ended is-direct next-count next-held next-bytes next-of feed-cut feed-answered feed-full feed-ended feed-line feed-step feed-start fed how-ended memory-outcome outcome-refusal call-fed all-taken all-written
 open-feeding = tt

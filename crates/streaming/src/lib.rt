@@ -1,6 +1,7 @@
 // The stream of lines: where the next line of a block ends, and the bytes of one that a block's end cuts, in lent memory.
 ghost use mathlib.Core.Path.{_≡_};
 ghost use Rattle.streaming.specs.Feeding;
+use error::Refusal;
 
 // The line's part of the block ends at `stop`, before an LF if `ended`. A line that is `direct` is that part; any other is now held, `count` bytes of it.
 pub struct Next {
@@ -18,6 +19,20 @@ pub enum Outcome {
     Full(usize),
     Unheld,
     Miscounted,
+}
+
+impl Outcome {
+    // The refusal that it is: 20 with the bytes needed, of the output or of the memory for a cut line; 21 of a count that no call hands back.
+    pub fn refusal(self) -> Refusal
+        ensures { λ r. ⌜ r ≡ Feeding.outcome-refusal self ⌝ }
+    {
+        match self {
+            Outcome::Whole => Refusal::Granted,
+            Outcome::Full(needed) => Refusal::Short(needed),
+            Outcome::Unheld => Refusal::Short(16385),
+            Outcome::Miscounted => Refusal::Shape,
+        }
+    }
 }
 
 // How a call with the memory that it needs ended.

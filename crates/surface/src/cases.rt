@@ -11,7 +11,7 @@ const HOLE: [f64; 8] = [4.0, 4.0, 6.0, 4.0, 6.0, 6.0, 4.0, 6.0];
 const LEAVING: [f64; 6] = [4.0, 4.0, 14.0, 4.0, 4.0, 6.0];
 
 // The square, with this number as its second east, said to have so many vertices.
-fn square(n: usize, x: f64) -> Outline {
+pub(crate) fn square(n: usize, x: f64) -> Outline {
     let held = store::stored_outline(&SQUARE, 4, false);
     let mut points = held.points;
     points[2] = x;

@@ -9,6 +9,14 @@ pub(crate) fn whole(n: usize) {
     io::print_decimal(1, n as u64);
 }
 
+pub(crate) fn wholes(ns: &[usize]) {
+    let mut k = 0;
+    while k < ns.len() {
+        whole(ns[k]);
+        k += 1;
+    }
+}
+
 // A number by its bits; a NaN by its name.
 pub(crate) fn number(x: f64) {
     io::write_all(1, b" ");

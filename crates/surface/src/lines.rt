@@ -1,0 +1,121 @@
+// Job lines: the stream with too little memory and too little output, a line read to memory that is too short, and an answer that is no shape.
+use crate::cases;
+use crate::told;
+use error::Refusal;
+use region::Region;
+use region::RegionOffset;
+use streaming::Outcome;
+
+// How the call ended, how much of the block is taken, how much of a cut line is held, and how much of the output is used.
+fn fed(name: &[u8], outcome: Outcome, taken: usize, count: usize, used: usize) {
+    told::refusal(name, outcome.refusal());
+    told::whole(taken);
+    told::whole(count);
+    told::whole(used);
+    told::line_end();
+}
+
+// Two empty lines and a byte of a third.
+fn feed<'a>(name: &'a [u8], held: &'a mut [u8], count: usize, out: &'a mut [u8]) {
+    let f = wire::feed(b"\n\ni", held, count, out);
+    fed(name, f.outcome, f.taken, f.count, f.used);
+}
+
+fn finish<'a>(name: &'a [u8], held: &'a [u8], count: usize, out: &'a mut [u8]) {
+    let l = wire::finish(held, count, out);
+    fed(name, l.outcome, 0, 0, l.used);
+}
+
+pub(crate) fn streams() {
+    let mut held = [105; 16385];
+    let mut short = [105; 16384];
+    let mut out = [0; 12];
+    feed(b"feed", &mut held, 0, &mut out);
+    feed(b"feed to 11", &mut held, 0, &mut out[..11]);
+    feed(b"feed to 5", &mut held, 0, &mut out[..5]);
+    feed(b"feed with 16384 for a line", &mut short, 0, &mut out);
+    feed(b"feed of 16386 held", &mut held, 16386, &mut out);
+    finish(b"finish", &held, 0, &mut out);
+    finish(b"finish of 16385", &held, 16385, &mut out);
+    finish(b"finish of 1 to 5", &held, 1, &mut out[..5]);
+    finish(b"finish with 16384 for a line", &short, 1, &mut out);
+    finish(b"finish of 16386 held", &held, 16386, &mut out);
+}
+
+// What is read, and the memory afterwards.
+fn parse<'a>(name: &'a [u8], line: &'a [u8], lengths: &'a mut [usize], ps: &'a mut [f64]) {
+    let p = reading::parse_job(line, lengths, ps);
+    told::refusal(name, p.refusal);
+    told::number(p.distance);
+    told::whole(p.rings);
+    told::whole(p.count);
+    told::wholes(lengths);
+    told::numbers(ps);
+    told::line_end();
+}
+
+// Memory of two counts and three coordinates, each 7 before.
+fn read(name: &[u8], line: &[u8]) {
+    let mut lengths = [7; 2];
+    let mut ps = [7.0; 3];
+    parse(name, line, &mut lengths, &mut ps);
+}
+
+pub(crate) fn jobs() {
+    read(
+        b"parse_job",
+        b"inset,3ff0000000000000,2,4,5,4000000000000000,4008000000000000",
+    );
+    read(
+        b"parse_job, a count that is none",
+        b"inset,3ff0000000000000,2,4,x",
+    );
+    read(
+        b"parse_job, a coordinate that is none",
+        b"inset,3ff0000000000000,1,4,4000000000000000,x",
+    );
+    read(
+        b"parse_job, three counts",
+        b"inset,3ff0000000000000,3,4,5,6",
+    );
+    read(
+        b"parse_job, four coordinates",
+        b"inset,3ff0000000000000,0,4000000000000000,4000000000000000,4000000000000000,4000000000000000",
+    );
+}
+
+// The answer of a square said to have so many vertices, and how many bytes of it are written.
+fn answer(name: &[u8], n: usize, x: f64, out: &mut [u8]) {
+    let made = regions::without_holes(cases::square(4, 10.0));
+    let held = made.shape;
+    let points = held.points;
+    let counts = held.counts;
+    let outer = cases::square(n, x);
+    let a = answering::answer_bytes(
+        RegionOffset {
+            refusal: Refusal::Granted,
+            shape: Region {
+                outer: outer,
+                points: points,
+                counts: counts,
+                holes: 0,
+            },
+            collapses: 0,
+            divides: 0,
+            joins: 0,
+        },
+        out,
+    );
+    told::refusal(name, a.refusal);
+    told::whole(a.count);
+    told::line_end();
+}
+
+pub(crate) fn answers() {
+    let mut out = [0; 142];
+    answer(b"answer_bytes", 4, 10.0, &mut out);
+    answer(b"answer_bytes to 141", 4, 10.0, &mut out[..141]);
+    answer(b"answer_bytes of 2", 2, 10.0, &mut out);
+    answer(b"answer_bytes of 129", 129, 10.0, &mut out);
+    answer(b"answer_bytes beyond", 4, 2000000000.0, &mut out);
+}
