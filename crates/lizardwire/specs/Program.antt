@@ -7,7 +7,7 @@ use mathlib.Core.List.{List, []}
 use lib.ListN.{take, drop}
 use Rattle.jobs.specs.Stream.{block-taken}
 use Rattle.streaming.specs.Feeding.{most-held, Feed, machine}
-use Rattle.wire.specs.Wire.{stream-fed}
+use Rattle.wire.specs.Wire.{held-of, out-of, stream-fed}
 use Rattle.lizardwire.specs.declared.Turn.{Turn}
 use Rattle.lizardwire.specs.declared.Run.{Run}
 
@@ -15,9 +15,19 @@ use Rattle.lizardwire.specs.declared.Run.{Run}
 abbrev pub turn-fed : List ℕ → ℕ → List ℕ → ℕ → List ℕ → Feed
 turn-fed block at held count out = stream-fed (drop at block) held count out
 
--- after it: what the stream took of the rest is taken of the block, and what it put into the output is to be written
+-- what the stream took of the rest is taken of the block, and what it put into the output is to be written
 unfoldable pub turn-told : ℕ → Feed → Turn
 turn-told at s = record { at = at + s .at; count = s .count; used = s .used }
+
+-- what the turn hands back, and the memory for a cut line and the output after it
+abbrev pub turn-after : List ℕ → ℕ → List ℕ → ℕ → List ℕ → Turn
+turn-after block at held count out = turn-told at (turn-fed block at held count out)
+
+abbrev pub held-after : List ℕ → ℕ → List ℕ → ℕ → List ℕ → List ℕ
+held-after block at held count out = held-of (turn-fed block at held count out)
+
+abbrev pub out-after : List ℕ → ℕ → List ℕ → ℕ → List ℕ → List ℕ
+out-after block at held count out = out-of (turn-fed block at held count out)
 
 -- after a block, if no write failed: what is held is the line of the byte machine, fed the whole block
 pub record BlockTaken (block held : List ℕ) (count : ℕ) (after : List ℕ) (r : Run) : Type 0 where

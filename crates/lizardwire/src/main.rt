@@ -2,7 +2,6 @@
 ghost use Prim.Native.Nat.{_≤_};
 ghost use mathlib.Core.Path.{_≡_};
 ghost use lib.ListN.{length};
-ghost use Rattle.wire.specs.Wire;
 ghost use Rattle.lizardwire.specs.Program;
 
 // After a turn over a block: how many of its bytes are taken, how many of a cut line are held, and how many bytes of the output are to be
@@ -69,9 +68,9 @@ fn next_turn<'a>(
     out: &'a mut [u8],
 ) -> Turn
     requires { ⌜ at ≤ length (now block) ⌝ }
-    ensures told { λ r. ⌜ r ≡ Program.turn-told at (Program.turn-fed (now (block .entry)) at (now (held .entry)) count (now (out .entry))) ⌝ }
-    ensures held { λ _. ⌜ now (held .exit) ≡ Wire.held-of (Program.turn-fed (now (block .entry)) at (now (held .entry)) count (now (out .entry))) ⌝ }
-    ensures written { λ _. ⌜ now (out .exit) ≡ Wire.out-of (Program.turn-fed (now (block .entry)) at (now (held .entry)) count (now (out .entry))) ⌝ }
+    ensures told { λ r. ⌜ r ≡ Program.turn-after (now (block .entry)) at (now (held .entry)) count (now (out .entry)) ⌝ }
+    ensures held { λ _. ⌜ now (held .exit) ≡ Program.held-after (now (block .entry)) at (now (held .entry)) count (now (out .entry)) ⌝ }
+    ensures written { λ _. ⌜ now (out .exit) ≡ Program.out-after (now (block .entry)) at (now (held .entry)) count (now (out .entry)) ⌝ }
 {
     let fed = wire::feed(&block[at..], held, count, out);
     Turn {

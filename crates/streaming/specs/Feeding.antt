@@ -71,8 +71,8 @@ next-of block at count =
 
 -- ---- a block
 
--- `at` bytes of the block are taken, `used` bytes of the output written; `more` until the block is taken or an answer does not fit the output,
--- which then has `needed` bytes with its LF.
+-- `at` bytes of the block are taken, `used` bytes of the output written; `more` until the block is taken or an answer does not fit the
+-- output, which then has `needed` bytes with its LF.
 pub record Feed : Type 0 where
   pub at : ℕ
   pub held : List ℕ

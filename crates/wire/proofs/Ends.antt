@@ -15,12 +15,12 @@ use Rattle.digits.proofs.Puts.{put-front}
 use Rattle.jobs.specs.Stream.{StreamState, answered, with-answer, ended-by, written}
 use Rattle.jobs.proofs.Walks.{and-left, and-right}
 use Rattle.streaming.specs.Feeding.{line-end, is-ended, most-held, Feed, machine, fed, how-ended}
-use Rattle.streaming.specs.Progress.{next-answer, NextUnfit}
-use Rattle.streaming.specs.declared.Outcome.the-variants.{Whole, Full}
+use Rattle.streaming.specs.Progress.{NextUnfit}
+use Rattle.streaming.specs.declared.Outcome.the-variants.{Full}
 use Rattle.streaming.proofs.Parts.{end-from}
 use Rattle.streaming.proofs.Progress.{answered-room, stops-full}
 use Rattle.wire.specs.declared.Put.{Put}
-use Rattle.wire.specs.Wire.{answer-fits, answer-put, put-written, holds, stream-fed, feed-as, feed-told, last-line, finished, finish-written, finish-told, EndsApart, Finishes, FinishesFitting}
+use Rattle.wire.specs.Wire.{answer-fits, answer-put, put-written, holds, stream-fed, feed-as, feed-told, last-line, finished, finish-written, finish-told, EndedBy, EndsApart, Finishes, FinishesFitting}
 use Rattle.wire.proofs.Steps.{ends-as, is-fed, short-ends, much-ends}
 
 -- a line that has a byte is answered
@@ -112,9 +112,7 @@ unfolding is-ended
 in-block block at e = ltb-true (line-end block at) (length block) e
 
 module _ (block held : List ℕ) (count : ℕ) (out : List ℕ) where
-  enough-ends : holds held count ≡ true
-      → ((feed-told block held count out) .outcome ≡ Whole × (feed-told block held count out) .taken ≡ length block)
-      ⊎ ((feed-told block held count out) .outcome ≡ Full (length (next-answer block (fed block held count out))) × NextUnfit block (fed block held count out))
+  enough-ends : holds held count ≡ true → EndedBy block (fed block held count out) (feed-told block held count out)
   unfolding feed-told feed-as how-ended
   enough-ends h = go (stops-full block held count out (held-most held count h) (held-room held count h))
     where
@@ -132,8 +130,7 @@ module _ (block held : List ℕ) (count : ℕ) (out : List ℕ) where
           past x a n p q r = omega arith
 
       go : ((fed block held count out) .at ≡ length block) ⊎ NextUnfit block (fed block held count out)
-          → ((feed-told block held count out) .outcome ≡ Whole × (feed-told block held count out) .taken ≡ length block)
-          ⊎ ((feed-told block held count out) .outcome ≡ Full (length (next-answer block (fed block held count out))) × NextUnfit block (fed block held count out))
+          → EndedBy block (fed block held count out) (feed-told block held count out)
       go (inl e) = let w = ap (λ (s : Feed). s .at) same ∙ e in inl (ends true (eq-eqb _ _ w), w)
       go (inr u) =
           inr (ends false (ne-eqb _ _ (λ w. ahead u (sym (ap (λ (s : Feed). s .at) same) ∙ w))) ∙ ap Full (ap (λ (s : Feed). s .needed) same ∙ u .needed), u)

@@ -127,7 +127,8 @@ module _ (block : List ℕ) (at : ℕ) (held : List ℕ) (count : ℕ) (out : Li
           unfolding answer-put
           needs = ap (λ (x : Put). x .needed) put-is
 
-          pub no-step : (a : ℕ) → a ≡ cond (next .direct) at (next .stop) → _≡_ {A = Step} (record { at = a; count = next .count; used = used; needed = p .needed; more = false }) (step-told (feed-line block (feed-of at held count out used)))
+          pub no-step : (a : ℕ) → a ≡ cond (next .direct) at (next .stop)
+              → _≡_ {A = Step} (record { at = a; count = next .count; used = used; needed = p .needed; more = false }) (step-told (feed-line block (feed-of at held count out used)))
           unfolding step-told feed-full feed-of
           no-step a z = rw (full-is, z, direct-is, stop-is, count-is, needs) refl
 

@@ -95,7 +95,8 @@ unfoldable pub last-line : List ℕ → ℕ → Bool
 last-line held count = holds held count && leb 1 count
 
 unfoldable pub finished : List ℕ → ℕ → List ℕ → Put
-finished held count out = cond (last-line held count) (answer-put (take count held) out 0) (record { fits = holds held count; used = 0; needed = 0 })
+finished held count out =
+    cond (last-line held count) (answer-put (take count held) out 0) (record { fits = holds held count; used = 0; needed = 0 })
 
 unfoldable pub finish-written : List ℕ → ℕ → List ℕ → List ℕ
 finish-written held count out = cond (last-line held count) (put-written (take count held) out 0) out
@@ -113,14 +114,16 @@ finish-told held count out =
 abbrev pub JobWritable : Type 0
 JobWritable = (outward : Bool) (d : Float) (lengths : List ℕ) (ps : List Float) → writable (job outward d lengths ps) ≡ true
 
--- How a call ended is told apart: too little memory for a cut line; a count that no call hands back; the whole block; an answer that does not
--- fit the output, with its bytes.
+-- after a call with the memory that it needs: the whole block is taken, or the next answer does not fit the output, with its bytes
+abbrev pub EndedBy : List ℕ → Feed → Fed → Type 0
+EndedBy block s f =
+    (f .outcome ≡ Whole × f .taken ≡ length block) ⊎ (f .outcome ≡ Full (length (next-answer block s)) × NextUnfit block s)
+
+-- How a call ended is told apart: too little memory for a cut line; a count that no call hands back; else one of those two.
 pub record FeedEnds (block held : List ℕ) (count : ℕ) (out : List ℕ) : Type 0 where
   pub unheld : length held < most-held → (feed-told block held count out) .outcome ≡ Unheld
   pub miscounted : most-held ≤ length held → most-held < count → (feed-told block held count out) .outcome ≡ Miscounted
-  pub enough : holds held count ≡ true
-      → ((feed-told block held count out) .outcome ≡ Whole × (feed-told block held count out) .taken ≡ length block)
-      ⊎ ((feed-told block held count out) .outcome ≡ Full (length (next-answer block (fed block held count out))) × NextUnfit block (fed block held count out))
+  pub enough : holds held count ≡ true → EndedBy block (fed block held count out) (feed-told block held count out)
 
 abbrev pub EndsApart : Type 0
 EndsApart = (block held : List ℕ) (count : ℕ) (out : List ℕ) → FeedEnds block held count out

@@ -20,8 +20,8 @@ pub struct Put {
     pub needed: usize,
 }
 
-// How many bytes of a block are taken, how many of a cut line are held, how many bytes of the output are used, and how many the answer needs
-// that did not fit.
+// How many bytes of a block are taken, how many of a cut line are held, how many bytes of the output are used, and how many the answer
+// needs that did not fit.
 pub struct Taken {
     pub at: usize,
     pub count: usize,
@@ -217,9 +217,9 @@ pub(crate) fn feed_line<'a>(
     }
 }
 
-// The lines of a block, until it is taken or an answer does not fit the output; `count` bytes of a cut line are held. A call with 16,385 bytes
-// of output takes one line at least, or the whole block. Where the memory lent for a cut line has not the room, or the count is none that a
-// call hands back, nothing is changed.
+// The lines of a block, until it is taken or an answer does not fit the output; `count` bytes of a cut line are held. A call with 16,385
+// bytes of output takes one line at least, or the whole block. Where the memory lent for a cut line has not the room, or the count is none
+// that a call hands back, nothing is changed.
 pub fn feed<'a>(block: &'a [u8], held: &'a mut [u8], count: usize, out: &'a mut [u8]) -> Fed
     ensures told { λ r. ⌜ r ≡ Wire.feed-told (now (block .entry)) (now (held .entry)) count (now (out .entry)) ⌝ }
     ensures held { λ _. ⌜ now (held .exit) ≡ Wire.held-of (Wire.stream-fed (now (block .entry)) (now (held .entry)) count (now (out .entry))) ⌝ }
