@@ -1,6 +1,6 @@
 // Public functions that no other program calls, or never with bad input and short output, on drawn cases. A line has the case, the refusal's number with the ring and the whole numbers that it carries, counts, and numbers by their bits.
 mod cases;
-mod lines;
+mod stream;
 mod told;
 
 fn main() {
@@ -8,7 +8,7 @@ fn main() {
     cases::single();
     cases::given();
     cases::read();
-    lines::streams();
-    lines::jobs();
-    lines::answers();
+    stream::streams();
+    stream::jobs();
+    stream::answers();
 }

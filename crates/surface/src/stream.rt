@@ -18,34 +18,81 @@ fn fed(name: &[u8], outcome: Outcome, taken: usize, count: usize, used: usize) {
 // Two empty lines and a byte of a third.
 fn feed<'a>(name: &'a [u8], held: &'a mut [u8], count: usize, out: &'a mut [u8]) {
     let f = wire::feed(b"\n\ni", held, count, out);
-    fed(name, f.outcome, f.taken, f.count, f.used);
+    let outcome = f.outcome;
+    fed(name, outcome, f.taken, f.count, f.used);
 }
 
 fn finish<'a>(name: &'a [u8], held: &'a [u8], count: usize, out: &'a mut [u8]) {
     let l = wire::finish(held, count, out);
-    fed(name, l.outcome, 0, 0, l.used);
+    let outcome = l.outcome;
+    fed(name, outcome, 0, 0, l.used);
+}
+
+// Output of twelve, eleven and five bytes: the answers of the two lines have six each.
+fn feed_12(name: &[u8], count: usize) {
+    let mut held = [105; 16385];
+    let mut out = [0; 12];
+    feed(name, &mut held, count, &mut out);
+}
+
+fn feed_11(name: &[u8], count: usize) {
+    let mut held = [105; 16385];
+    let mut out = [0; 11];
+    feed(name, &mut held, count, &mut out);
+}
+
+fn feed_5(name: &[u8], count: usize) {
+    let mut held = [105; 16385];
+    let mut out = [0; 5];
+    feed(name, &mut held, count, &mut out);
+}
+
+// A byte too few for a cut line.
+fn feed_short(name: &[u8], count: usize) {
+    let mut held = [105; 16384];
+    let mut out = [0; 12];
+    feed(name, &mut held, count, &mut out);
+}
+
+fn finish_6(name: &[u8], count: usize) {
+    let held = [105; 16385];
+    let mut out = [0; 6];
+    finish(name, &held, count, &mut out);
+}
+
+fn finish_5(name: &[u8], count: usize) {
+    let held = [105; 16385];
+    let mut out = [0; 5];
+    finish(name, &held, count, &mut out);
+}
+
+fn finish_short(name: &[u8], count: usize) {
+    let held = [105; 16384];
+    let mut out = [0; 6];
+    finish(name, &held, count, &mut out);
 }
 
 pub(crate) fn streams() {
-    let mut held = [105; 16385];
-    let mut short = [105; 16384];
-    let mut out = [0; 12];
-    feed(b"feed", &mut held, 0, &mut out);
-    feed(b"feed to 11", &mut held, 0, &mut out[..11]);
-    feed(b"feed to 5", &mut held, 0, &mut out[..5]);
-    feed(b"feed with 16384 for a line", &mut short, 0, &mut out);
-    feed(b"feed of 16386 held", &mut held, 16386, &mut out);
-    finish(b"finish", &held, 0, &mut out);
-    finish(b"finish of 16385", &held, 16385, &mut out);
-    finish(b"finish of 1 to 5", &held, 1, &mut out[..5]);
-    finish(b"finish with 16384 for a line", &short, 1, &mut out);
-    finish(b"finish of 16386 held", &held, 16386, &mut out);
+    feed_12(b"feed to 12", 0);
+    feed_11(b"feed to 11", 0);
+    feed_5(b"feed to 5", 0);
+    feed_5(b"feed of 1 held to 5", 1);
+    feed_12(b"feed of 16386 held", 16386);
+    feed_short(b"feed with 16384 for a line", 0);
+    feed_short(b"feed with 16384, of 16386 held", 16386);
+    finish_6(b"finish of none", 0);
+    finish_6(b"finish of 1", 1);
+    finish_6(b"finish of 16385", 16385);
+    finish_6(b"finish of 16386", 16386);
+    finish_5(b"finish of 1 to 5", 1);
+    finish_short(b"finish with 16384 for a line", 1);
 }
 
 // What is read, and the memory afterwards.
 fn parse<'a>(name: &'a [u8], line: &'a [u8], lengths: &'a mut [usize], ps: &'a mut [f64]) {
     let p = reading::parse_job(line, lengths, ps);
-    told::refusal(name, p.refusal);
+    let refusal = p.refusal;
+    told::refusal(name, refusal);
     told::number(p.distance);
     told::whole(p.rings);
     told::whole(p.count);
@@ -55,7 +102,7 @@ fn parse<'a>(name: &'a [u8], line: &'a [u8], lengths: &'a mut [usize], ps: &'a m
 }
 
 // Memory of two counts and three coordinates, each 7 before.
-fn read(name: &[u8], line: &[u8]) {
+fn read<'a>(name: &'a [u8], line: &'a [u8]) {
     let mut lengths = [7; 2];
     let mut ps = [7.0; 3];
     parse(name, line, &mut lengths, &mut ps);
@@ -106,16 +153,26 @@ fn answer(name: &[u8], n: usize, x: f64, out: &mut [u8]) {
         },
         out,
     );
-    told::refusal(name, a.refusal);
+    let refusal = a.refusal;
+    told::refusal(name, refusal);
     told::whole(a.count);
     told::line_end();
 }
 
-pub(crate) fn answers() {
+fn answer_142(name: &[u8], n: usize, x: f64) {
     let mut out = [0; 142];
-    answer(b"answer_bytes", 4, 10.0, &mut out);
-    answer(b"answer_bytes to 141", 4, 10.0, &mut out[..141]);
-    answer(b"answer_bytes of 2", 2, 10.0, &mut out);
-    answer(b"answer_bytes of 129", 129, 10.0, &mut out);
-    answer(b"answer_bytes beyond", 4, 2000000000.0, &mut out);
+    answer(name, n, x, &mut out);
+}
+
+fn answer_141(name: &[u8], n: usize, x: f64) {
+    let mut out = [0; 141];
+    answer(name, n, x, &mut out);
+}
+
+pub(crate) fn answers() {
+    answer_142(b"answer_bytes to 142", 4, 10.0);
+    answer_141(b"answer_bytes to 141", 4, 10.0);
+    answer_142(b"answer_bytes of 2", 2, 10.0);
+    answer_142(b"answer_bytes of 129", 129, 10.0);
+    answer_142(b"answer_bytes beyond", 4, 2000000000.0);
 }
