@@ -10,10 +10,9 @@ use Rattle.front.specs.declared.Loaded.{Loaded}
 use Rattle.error.specs.Refusals.{granted, number}
 use Rattle.math.specs.Number.{finite}
 use Rattle.front.specs.Loading.{Loads}
-use Rattle.front.specs.Sweeps.{offset-rings}
-use Rattle.front.specs.Demand.{givens, run, events, tally, handed, Holds}
+use Rattle.front.specs.Demand.{givens, run, swept, events, tally, handed, Holds}
 
--- granted
+-- granted, the front has its n edges in r rings
 abbrev pub LoadGranted : Type 0
 LoadGranted =
     (distance : Float) (origin : PlanarPoint) (n r : ℕ) (l : Loaded) → Loads distance origin n r l → granted (l .refusal) ≡ true →
@@ -29,10 +28,10 @@ LoadRefused =
 abbrev pub RefusedCounts : Type 0
 RefusedCounts =
     (distance : Float) (l : Loaded) → granted (l .refusal) ≡ false →
-    (run (givens distance l) l ≡ []) × (handed (offset-rings distance l) ≡ tally []) × ((offset-rings distance l) .refusal ≡ l .refusal)
+    (run (givens distance l) l ≡ []) × (handed (swept (givens distance l) l) ≡ tally []) × ((swept (givens distance l) l) .refusal ≡ l .refusal)
 
 -- before any event all three are 0
 abbrev pub FirstCounts : Type 0
 FirstCounts =
     (distance : Float) (origin : PlanarPoint) (n r : ℕ) (l : Loaded) → finite distance ≡ true → Loads distance origin n r l →
-    events (run (givens distance l) l) ≡ [] → handed (offset-rings distance l) ≡ tally []
+    events (run (givens distance l) l) ≡ [] → handed (swept (givens distance l) l) ≡ tally []

@@ -20,9 +20,8 @@ use Rattle.front.specs.Lines.{direction, normal}
 use Rattle.front.specs.Edges.{edge, edge-line, vertex}
 use Rattle.front.specs.Tidying.{find-tidy}
 use Rattle.front.specs.Loading.{Loads}
-use Rattle.front.specs.Sweeps.{offset-rings}
 use Rattle.front.specs.Links.{links}
-use Rattle.front.specs.Demand.{Givens, givens, Looks, Each, tidied, found, run}
+use Rattle.front.specs.Demand.{Givens, givens, Looks, Each, tidied, found, run, swept}
 
 -- ---- two lines
 
@@ -50,7 +49,7 @@ pub record Velocity (given : Givens) (l : Loaded) : Type 0 where
   -- the live vertices of a tidied front all have a velocity
   pub moves : Each (λ t. Looks t → Moves ((tidied t) .edges)) (run given l)
   -- at the distance too, where the front has come to it
-  pub ended : (offset-rings (given .distance) l) .ended ≡ true → Moves ((offset-rings (given .distance) l) .edges)
+  pub ended : (swept given l) .ended ≡ true → Moves ((swept given l) .edges)
   -- so the search for the next event meets none without
   pub seeks : Each (λ t. Looks t → found t ≢ Stalled) (run given l)
   -- and neither does the event: a turn is refused by 17 only where tidying met a vertex without a velocity

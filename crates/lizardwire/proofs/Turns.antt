@@ -195,13 +195,13 @@ pub less-left : (x y n : ℕ) → x < y → x < n → n - y < n - x
 less-left x y n p q = omega arith
 
 -- at the block's end
-pub block-ends : (block held₀ : List ℕ) (count at : ℕ) (held : List ℕ) (have : ℕ) (more : Bool) → at ≤ length block → length block ≤ at → have ≤ most-held → Line block held₀ count at held have
-    → BlockTaken block held₀ count held (record { count = have; more = more; failed = false })
-block-ends block held₀ count at held have more a b m q =
-    record { most = m; line = λ z. sym (ap (λ (l : List ℕ). (block-taken (machine held₀ count []) l) .line) (sym (take-all at block b)) ∙ q) }
+pub block-ends : (block held₀ : List ℕ) (count at : ℕ) (held : List ℕ) (have : ℕ) → at ≤ length block → length block ≤ at → have ≤ most-held → Line block held₀ count at held have
+    → BlockTaken block held₀ count held (record { count = have; more = true; failed = false })
+block-ends block held₀ count at held have a b m q =
+    record { most = m; goes = λ z. refl; line = λ z. sym (ap (λ (l : List ℕ). (block-taken (machine held₀ count []) l) .line) (sym (take-all at block b)) ∙ q) }
 
 pub block-fails : (block held₀ : List ℕ) (count : ℕ) (held : List ℕ) (have : ℕ) (more : Bool) → have ≤ most-held → BlockTaken block held₀ count held (record { count = have; more = more; failed = true })
-block-fails block held₀ count held have more m = record { most = m; line = λ z. absurd (no z) }
+block-fails block held₀ count held have more m = record { most = m; goes = λ z. absurd (no z); line = λ z. absurd (no z) }
   where
     no : true ≡ false → ⊥
     no z = false≢true (sym z)

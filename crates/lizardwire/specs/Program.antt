@@ -1,7 +1,7 @@
 -- What a turn of the program's loop hands back, and what is held after a block, with the memory that is lent. What is read and what is
 -- written is outside these. Assumes nothing.
 use Prim.Native.Nat.{ℕ, _+_, _≤_}
-use mathlib.Core.Bool.{false}
+use mathlib.Core.Bool.{true, false}
 use mathlib.Core.Path.{_≡_}
 use mathlib.Core.List.{List, []}
 use lib.ListN.{take, drop}
@@ -29,9 +29,10 @@ held-after block at held count out = held-of (turn-fed block at held count out)
 abbrev pub out-after : List ℕ → ℕ → List ℕ → ℕ → List ℕ → List ℕ
 out-after block at held count out = out-of (turn-fed block at held count out)
 
--- after a block, if no write failed: what is held is the line of the byte machine, fed the whole block
+-- after a block, if no write failed: reading goes on, and what is held is the line of the byte machine, fed the whole block
 pub record BlockTaken (block held : List ℕ) (count : ℕ) (after : List ℕ) (r : Run) : Type 0 where
   pub most : r .count ≤ most-held
+  pub goes : r .failed ≡ false → r .more ≡ true
   pub line : r .failed ≡ false → take (r .count) after ≡ (block-taken (machine held count []) block) .line
 
 -- opens the definition above

@@ -146,8 +146,8 @@ how-ended whole needed = cond whole Whole (Full needed)
 unfoldable pub memory-outcome : List ℕ → ℕ → Outcome → Outcome
 memory-outcome held count o = cond (leb most-held (length held)) (cond (leb count most-held) o Miscounted) Unheld
 
--- "When an answer is an enum, a definition gives this paper's number and values for each of its cases": 20 with the bytes needed, of the output
--- or of the memory for a cut line, and 21 of a count that no call hands back
+-- "When an answer is an enum, a definition gives this paper's number and values for each of its cases": 20 with the bytes needed, of
+-- the output or of the memory for a cut line, and 21 of a count that no call hands back
 unfoldable pub outcome-refusal : Outcome → Refusal
 outcome-refusal Whole = Granted
 outcome-refusal (Full needed) = Short needed

@@ -23,7 +23,8 @@ pub enum Outcome {
 }
 
 impl Outcome {
-    // The refusal that it is: 20 with the bytes needed, of the output or of the memory for a cut line; 21 of a count that no call hands back.
+    // The refusal that it is: 20 with the bytes needed, of the output or of the memory for a cut line; 21 of a count that no call
+    // hands back.
     pub fn refusal(self) -> Refusal
         ensures { λ r. ⌜ r ≡ Feeding.outcome-refusal self ⌝ }
     {

@@ -1,4 +1,5 @@
-// Job lines: the stream with too little memory and too little output, a line read to memory that is too short, and an answer that is no shape.
+// Job lines: the stream with too little memory and too little output, a line read to memory that is too short, and an answer that is
+// no shape.
 use crate::cases;
 use crate::told;
 use error::Refusal;

@@ -96,7 +96,7 @@ returns-2 : tie.Need-returns-2 Inv-loop μ-loop
 returns-2 c =
     let a = c .before .before .before .before .before .args in
     let l = c .before .loop in
-    block-ends (now (a .block)) (now (a .held)) (a .count) (l .at) (l .held) (l .have) _ (l .inv .2) (c .loop-test .left) (l .inv .3) (l .inv .6)
+    block-ends (now (a .block)) (now (a .held)) (a .count) (l .at) (l .held) (l .have) (l .inv .2) (c .loop-test .left) (l .inv .3) (l .inv .6)
 
 pub feed-block-spec : {M : Type 1} → statement M
 feed-block-spec =
