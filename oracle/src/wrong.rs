@@ -27,7 +27,7 @@ fn given(hole: &[f64]) -> Given {
     }
 }
 
-/// Questions of each kind.
+/// Questions of each kind, granted and refused.
 pub fn asked() -> Vec<Question> {
     let triangle = || shape(TRIANGLE);
     let far = [20.0, 0.0, 24.0, 0.0, 20.0, 3.0];
@@ -41,10 +41,15 @@ pub fn asked() -> Vec<Question> {
         Question::Contains(triangle(), [1.0, 1.0]),
         Question::Contains(triangle(), [1.0, f64::NAN]),
         Question::Nearest(triangle(), [5.0, 1.0]),
+        Question::Nearest(triangle(), [5.0, f64::NAN]),
         Question::Measures(triangle()),
+        Question::Measures(shape(&TRIANGLE[..4])),
         Question::Clearance(triangle(), shape(&far)),
+        Question::Clearance(triangle(), shape(&far[..4])),
         Question::Edge(triangle(), 1),
+        Question::Edge(shape(&TRIANGLE[..4]), 1),
         Question::Point([1.0, 2.0], [4.0, 6.0]),
+        Question::Point([f64::NAN, 2.0], [4.0, f64::INFINITY]),
         Question::Area(2.5),
         Question::Area(-1.0),
         Question::Offset(false, 0.5, triangle()),

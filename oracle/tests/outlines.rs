@@ -1,6 +1,6 @@
 //! Questions about outlines and regions, and their answers.
 
-use std::collections::BTreeMap;
+use std::collections::{BTreeMap, BTreeSet};
 
 use oracle::answer::answer_line;
 use oracle::outlines::{Question, Shape, Tally, KINDS};
@@ -681,8 +681,26 @@ fn wrong_answers_are_wrong() {
             assert_eq!(wrong.count(), 1, "field {place} of {right}");
         }
     }
-    let kinds: Vec<usize> = wrong::asked().iter().map(Question::kind).collect();
-    assert!((0..KINDS).all(|kind| kinds.contains(&kind)), "{kinds:?}");
+    let told = |asked: &Question| (asked.kind(), asked.answer()[0] > 0);
+    let kinds: Vec<(usize, bool)> = wrong::asked().iter().map(told).collect();
+    for kind in (0..KINDS).flat_map(|kind| [(kind, false), (kind, true)]) {
+        assert!(kinds.contains(&kind), "{kind:?}");
+    }
+}
+
+/// chosen.jobs: what it is, then words about each place with its jobs.
+#[test]
+fn the_chosen_jobs_are_all_there() {
+    let blocks = include_str!("../chosen.jobs").split("\n\n").skip(1);
+    let blocks: Vec<(&str, &str)> = blocks.filter_map(|block| block.split_once('\n')).collect();
+    assert_eq!(blocks.len(), 18);
+    for (words, jobs) in blocks {
+        assert!(words.starts_with("# ") && !jobs.contains('#'), "{words}");
+        let jobs: BTreeSet<&str> = jobs.lines().collect();
+        assert!(jobs.len() >= 4, "{words}");
+        let chosen = |job: &&str| stored::chosen().any(|line| line == job.as_bytes());
+        assert!(jobs.iter().all(chosen), "{words}");
+    }
 }
 
 #[test]

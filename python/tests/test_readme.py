@@ -1,4 +1,4 @@
-"""What README.md shows of the package and of what is not covered is what the library answers."""
+"""What README.md shows of the package and of what is not covered is what the library answers, and what the header shows."""
 import doctest
 import os
 import re
@@ -17,7 +17,7 @@ def drawing(words):
     """A ring; or a square by two corners, and its hole."""
     if not words.startswith("the square"):
         return [points(words)]
-    corners, hole = words.split(", hole ")
+    corners, hole = re.split(r", hole | with the hole ", words)
     (west, south), (east, north) = points(corners)
     return [[(west, south), (east, south), (east, north), (west, north)], points(hole)]
 
@@ -27,6 +27,8 @@ class Readme(unittest.TestCase):
         self.path = os.path.join(TOP, "README.md")
         with open(self.path, encoding="utf-8") as stream:
             self.text = stream.read()
+        self.rows = re.findall(r"^  \| (\S.*\)) \| ([\d.]+) \| (.*?) \| (.*) \|$", self.text, re.M)
+        self.assertEqual(len(self.rows), 4)
 
     def test_the_example(self):
         told = doctest.testfile(self.path, module_relative=False, encoding="utf-8")
@@ -34,9 +36,7 @@ class Readme(unittest.TestCase):
         self.assertEqual(told.failed, 0)
 
     def test_what_a_cage_can_lack(self):
-        rows = re.findall(r"^  \| (\S.*\)) \| ([\d.]+) \| (.*?) \| .* \|$", self.text, re.M)
-        self.assertEqual(len(rows), 4)
-        for shape, distance, answer in rows:
+        for shape, distance, answer, _ in self.rows:
             area = re.search(r", area ([\d.]+)$", answer)
             if area:
                 cage = inset(drawing(shape), float(distance))
@@ -47,6 +47,22 @@ class Readme(unittest.TestCase):
                     inset(drawing(shape), float(distance))
                 no = caught.exception
                 self.assertEqual((answer, no.collapses, no.divides), (f"{no.number}, c = d = 0, j = {no.joins}", 0, 0))
+
+    def test_the_header_shows_the_same(self):
+        with open(os.path.join(TOP, "include", "lizardwire.h"), encoding="utf-8") as stream:
+            words = stream.read().replace("\n *", "")
+        said = re.search(
+            r"can be missing: (.*) inset by (\S+) gives one of two triangles; (.*) inset by (\S+) keeps (\S+) of an area of (\S+)\."
+            r" Nor does (\d+) always .* left: (.*) inset by (\S+) gets it, and an area of (\S+) is left\.",
+            words,
+        )
+        half, by, most, by_more, kept, due, number, square, by_less, left = said.groups()
+        shown = [(drawing(half), by), (drawing(most), by_more), (drawing(square), by_less)]
+        one, two, _, four = self.rows
+        self.assertEqual(shown, [(drawing(shape), distance) for shape, distance, *_ in (one, two, four)])
+        self.assertRegex(one[3], "^two such triangles:")
+        self.assertEqual((f"the upper triangle, area {kept}", due), (two[2], two[3].split(",")[0]))
+        self.assertEqual((number, left), (four[2].split(",")[0], four[3].split(",")[0]))
 
     def test_nearer_between_vertices(self):
         shape, distance, corner, gap = re.search(r"(\(0,0\)\S*) inset (\S+) passes (\S+) at ([\d.]+)\.\n", self.text).groups()
