@@ -5,7 +5,7 @@
  * nothing, keeps nothing between calls, calls nothing of yours, and may be
  * called from any number of threads at once. A job line takes 233 KB of stack,
  * a region's inset 205, an outline's offset 165, the check of a region 59, and
- * anything else less than 1 KB, of 1,000 bytes each.
+ * anything else less than 1 KB (a KB is 1,000 bytes).
  *
  * Numbers come as one flat list of doubles, east then north of each vertex.
  * Every bit pattern is allowed in them, NaN too. What a caller owes is what C
@@ -18,9 +18,10 @@
  * with no, the other fields carry what belongs to it, and the lent output is as
  * it was. A granted call changes only the numbers that it writes.
  *
- * A ring that an offset gives is simple, on the right side and clear of its
- * source, and keeps the distance at each of its vertices. It need not be all that
- * is left. Where a narrow place closes, the part behind it can be missing:
+ * A ring that an offset by a distance above 0 gives is simple, on the right side
+ * and clear of its source, and keeps the distance at each of its vertices. It need
+ * not be all that is left. Where a narrow place closes, the part behind it can be
+ * missing:
  * (0,0) (10,0) (6,5) (10,10) (0,10) (4,5) inset by 1.2 gives one of two triangles;
  * (8,6) (2,12) (4,14) (-4,14) (-2,12) (-8,6) inset by 1.5 keeps 0.14 of an area of
  * 19.3. Nor does 16 always mean that nothing is left: the square from (0,0) to
