@@ -26,9 +26,9 @@ use Rattle.front.specs.Loading.{no-front, loaded-nothing, load-refused, 
 use Rattle.front.specs.Links.{bit, links}
 use Rattle.front.proofs.Demand.Choice.{by-test}
 use Rattle.front.proofs.Demand.Occ.{by-cases}
-use Rattle.front.proofs.Demand.Rings.{Ring, spare, occs-nil}
+use Rattle.front.proofs.Demand.Rings.{Ring, spare, Threes, occs-nil}
 use Rattle.front.proofs.Demand.Links.{RingsOf}
-use Rattle.front.proofs.Demand.Load.{RingAt, last-ring, last-spare, add-ring}
+use Rattle.front.proofs.Demand.Load.{RingAt, last-ring, last-spare, last-threes, add-ring}
 use Rattle.front.proofs.EdgeLaws.{edge-in, edge-out}
 use Rattle.front.proofs.Demand.Views.{edge-here, edge-there}
 use Rattle.loops.proofs.Laws.{rounds-keep}
@@ -88,6 +88,7 @@ module _ (P : Line → Type 0) where
     pub count : s .rings ≡ r
     pub fits : n ≤ 128
     pub spares : spare rs + 2 * r ≡ n
+    pub threes : Threes rs
     pub lined : Lined (λ i. P) (s .edges)
 
   abbrev pub Load-is : ℕ → ℕ → Loaded → Type 0
@@ -188,6 +189,7 @@ module _ (P : Line → Type 0) where
                   count = omega (arith, w .count, v .count);
                   fits = omega (arith, w .fits);
                   spares = omega (arith, last-spare first c (v .rs) three, v .spares);
+                  threes = last-threes first c (v .rs) three (v .threes);
                   lined = w .lined;
                 }
               where
@@ -215,6 +217,7 @@ module _ (P : Line → Type 0) where
     count = refl;
     fits = omega arith;
     spares = spare-none;
+    threes = tt;
     lined = record { lines = λ i a. absurd (false≢true (sym (ap (λ (e : Edge). e .alive) (nothing-edge i)) ∙ a)); size = length-replicate 128 unused };
   }
     where

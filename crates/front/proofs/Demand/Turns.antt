@@ -11,12 +11,12 @@ use Rattle.front.specs.declared.Tidy.the-variants.{Settled}
 use Rattle.front.specs.declared.Event.the-variants.{Stalled}
 use Rattle.front.specs.declared.Sweep.{Sweep}
 use Rattle.math.specs.Number.{add, infinity, finite}
-use Rattle.error.specs.Refusals.{number}
+use Rattle.error.specs.Refusals.{granted, number}
 use Rattle.loops.specs.Loop.{rounds}
 use Rattle.front.specs.Sweeps.{sweep-tidied, sweep-step}
 use Rattle.front.specs.Tidying.{find-tidy, tidy}
 use Rattle.front.specs.Links.{links}
-use Rattle.front.specs.Demand.{Givens, going, Turn, turn, turns, tidied, Looks, Leads, Each, found, Works, Finds, completed, events}
+use Rattle.front.specs.Demand.{Givens, going, Turn, turn, turns, tidied, Looks, Leads, Each, found, Works, Finds, Reaches, Fills, completed, events}
 use Rattle.front.specs.Edges.{edge}
 use Rattle.front.specs.Velocity.{Turned-left}
 use Rattle.loops.proofs.Laws.{steady, still, rounds-keep}
@@ -59,6 +59,9 @@ module _ (given : Givens) (near : finite (given .distance) ≡ true) (b : ℕ) w
     pub seeks : Looks t → found t ≢ Stalled
     pub lines : (x : ℕ) → links ((tidied t) .edges) .live x ≡ 1 → Turned-left ((edge ((tidied t) .edges) x) .line)
     pub refused : number (t .to .refusal) ≡ 17 → (tidied t) .stalled ≡ true
+    pub reached : t .to .ended ≡ true → Looks t × Reaches given (t .from) (found t)
+    pub slots : number (t .to .refusal) ≡ 15 → Looks t × Fills given (t .from) ((tidied t) .edges) (found t)
+    pub only : Looks t → granted (t .to .refusal) ≡ false → number (t .to .refusal) ≡ 15
 
   -- the turns ts from the sweep s on, of m rounds that lead to z
   pub record RunIs (m : ℕ) (s z : Sweep) (ts : List Turn) : Type 0 where
@@ -105,6 +108,9 @@ module _ (given : Givens) (near : finite (given .distance) ≡ true) (b : ℕ) w
       seeks = turn-seeks given near b i s h w;
       lines = turn-lines given near b i s h w;
       refused = now .refused;
+      reached = now .reached;
+      slots = now .slots;
+      only = now .only;
     }
 
     turn-more : (m : ℕ) (z : Sweep) (ts : List Turn) → RunIs m (t .to) z ts → RunIs (suc m) s z (t ∷ ts)

@@ -21,10 +21,10 @@ use Rattle.front.specs.Demand.{Givens, givens, going, turns, run, tally,
 use Rattle.front.specs.Velocity.{FrontVelocity}
 use Rattle.front.specs.LoadLaws.{LoadGranted, LoadRefused, RefusedCounts, FirstCounts}
 use Rattle.front.proofs.Demand.Rates.{Bounded, SmallPoint}
-use Rattle.front.proofs.Demand.Loading.{Load-is, load-law, load-none, Rings-in, Load-refusal, ring-refusal, none-refusal}
+use Rattle.front.proofs.Demand.Loading.{Load-is, load-law, load-none, Load-refusal, ring-refusal, none-refusal}
 use Rattle.front.proofs.Demand.Shapes.{Proper, proper-is, vertices, lines-sound}
 use Rattle.front.proofs.Demand.Turns.{rounds-done}
-use Rattle.front.proofs.Demand.Shown.{demand, velocity}
+use Rattle.front.proofs.Demand.Shown.{holds, demand, velocity}
 
 -- what loading leaves of n edges in r rings
 record Well (d : Float) (origin : PlanarPoint) (n r : ℕ) (l : Loaded) : Type 0 where
@@ -86,9 +86,7 @@ front-velocity d origin n r l near w =
 -- ---- loading granted, and loading refused
 
 pub load-granted : LoadGranted
-load-granted d origin n r l w g =
-    let h : Rings-in Bounded n r l = well d origin n r l w .loads g in
-    record { used = h .used; rings = h .count; fits = h .fits; live = h .live; rest = h .rest }
+load-granted d origin n r l w g = holds n r l (well d origin n r l w .loads g)
 
 pub load-refused : LoadRefused
 load-refused d origin n r l w = well d origin n r l w .refusal
