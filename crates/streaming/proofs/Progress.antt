@@ -3,24 +3,24 @@ use Prim.Native.Nat.{ℕ, zero, suc, _+_, _-_, _≤_, _<_, zero-le, suc-le-suc}
 use native.Mathlib.Nat.{le-refl, le-trans, le-of-lt, le-of-eq, le-add-right, le-antisymm, add-zero, zero-add}
 use native.Mathlib.Numerals.{add-one}
 use native.Mathlib.Omega.{arith}
-use mathlib.Core.Bool.{Bool, true, false, cond, _&&_}
+use mathlib.Core.Bool.{Bool, true, false, cond}
 use mathlib.Core.Logic.{_⊎_, inl, inr}
 use mathlib.Core.Path.{_≡_, refl, sym, ap, _∙_, subst}
-use mathlib.Core.List.{List, [], _∷_, _++_, append-nil, append-assoc}
-use lib.Dec.{leb, ltb, eqb}
+use mathlib.Core.List.{List, [], _∷_, _++_, append-nil}
+use lib.Dec.{leb, eqb}
 use lib.ListN.{length, take, drop, length-append, length-drop, take-append-drop}
 use lib.Seq.{take-all, length-take-le, drop-nil, drop-length}
-use borrow.Author.Tests.{leb-true, leb-false, le-leb, ltb-true, ltb-false, lt-ltb}
+use borrow.Author.Tests.{leb-false, le-leb, ltb-true, ltb-false, lt-ltb}
 use Rattle.loops.specs.Loop.{rounds}
 use Rattle.loops.proofs.Laws.{rounds-keep, steady}
 use Rattle.jobs.specs.Fields.{line-feed}
 use Rattle.jobs.specs.Lines.{answer-line}
-use Rattle.jobs.specs.Stream.{StreamState, stream-start, answered, answers, with-answer, byte-by, byte-taken, block-taken, joined, written, after-output}
+use Rattle.jobs.specs.Stream.{StreamState, stream-start, answered, with-answer, byte-by, byte-taken, block-taken, joined, written, after-output}
 use Rattle.jobs.proofs.Sizes.{answer-in-line}
 use Rattle.jobs.proofs.Stream.{block-nil, block-cons, feeding-parts, cut-answer, machine-answers, output-added}
 use Rattle.streaming.specs.Feeding.{before-by, before-feed, line-end, line-part, is-ended, is-direct, next-count, next-held, next-bytes}
 use Rattle.streaming.specs.Feeding.{most-held, held-with, count-with, Feed, feed-cut, feed-answered, feed-full, feed-ended, feed-line, feed-step, feed-start, fed, machine, Fed}
-use Rattle.streaming.specs.Progress.{next-answer, NextUnfit, StopsFull, TakesAll, TakesALine, Turns, turned, turn, feeds-by, line-feeds, with-block, Taken, BlockTaken, block-turned, blocks-turned, turns-start, all-sent, EveryLine}
+use Rattle.streaming.specs.Progress.{next-answer, NextUnfit, StopsFull, TakesAll, TakesALine, Turns, turned, turn, feeds-by, line-feeds, with-block, BlockTaken, block-turned, blocks-turned, turns-start, all-sent, EveryLine}
 use Rattle.streaming.proofs.Parts.{end-from}
 use Rattle.streaming.proofs.Machine.{in-line, part-taken, feed-follows, end-le, end-lt, feed-there, the-line, step-keeps, feeds, feeds-to, written-after}
 

@@ -10,7 +10,7 @@ use lib.Dec.{eqb}
 use lib.ListN.{length, take, drop}
 use Rattle.loops.specs.Loop.{rounds}
 use Rattle.jobs.specs.Fields.{line-feed}
-use Rattle.jobs.specs.Stream.{StreamState, answered, answers, block-taken, joined, written}
+use Rattle.jobs.specs.Stream.{answered, answers, block-taken, joined, written}
 use Rattle.streaming.specs.Feeding.{before-feed, line-part, is-ended, most-held, Feed, fed, machine}
 
 -- ---- one call

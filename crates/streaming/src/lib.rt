@@ -12,9 +12,9 @@ pub struct Next {
 }
 
 // How a call on the stream ended. `Whole`: the whole block is taken, or at the input's end the last line is answered. `Full`: the next
-// answer does not fit what is left of the output; it carries how many bytes that answer has with its LF. `Unheld`: the memory lent for a cut
-// line has fewer than 16,385 bytes; `Miscounted`: more than 16,385 are said to be held, which no call hands back. Of these two nothing is
-// done.
+// answer does not fit what is left of the output; it carries how many bytes that answer has with its LF. `Unheld`: the memory lent for a
+// cut line has fewer than 16,385 bytes; `Miscounted`: more than 16,385 are said to be held, which no call hands back. Of these two nothing
+// is done.
 pub enum Outcome {
     Whole,
     Full(usize),
