@@ -47,14 +47,14 @@ outline-job : (outward : Bool) (d : Float) (o : NewOutline) → (granted (o .ref
     → OutlineJob outward d o (job-outline outward d o)
 unfolding job-outline as-region
 outline-job outward d o p = record {
-  passed = λ g. rw g (record { bounds = offset-demand (o .shape) outward d (p g); counted = offset-counts (o .shape) outward d (p g) });
+  passed = λ g. rw g (record { bounds = offset-demand (o .shape) outward d (p g); counted = offset-counts (o .shape) outward d .passed (p g) });
   refused = λ g. rw g (plain (o .refusal));
 }
 
 region-job : (d : Float) (r : NewRegion) → (granted (r .refusal) ≡ true → proper-region (r .shape) ≡ true) → RegionJob d r (job-region d r)
 unfolding job-region
 region-job d r p = record {
-  passed = λ g. rw g (record { bounds = inset-demand (r .shape) d (p g); counted = inset-counts (r .shape) d (p g) });
+  passed = λ g. rw g (record { bounds = inset-demand (r .shape) d (p g); counted = inset-counts (r .shape) d .passed (p g) });
   refused = λ g. rw g (plain (r .refusal));
 }
 

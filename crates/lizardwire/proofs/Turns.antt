@@ -1,11 +1,11 @@
 -- A turn takes a byte at least, and what is held after it is the machine's line. Assumes nothing.
 use Prim.Native.Nat.{ℕ, _+_, _-_, _≤_, _<_}
-use native.Mathlib.Nat.{le-refl, le-trans, le-of-eq, le-antisymm, zero-add}
+use native.Mathlib.Nat.{le-of-eq}
 use native.Mathlib.Omega.{arith}
 use mathlib.Core.Bool.{Bool, true, false, cond, false≢true}
 use mathlib.Core.Logic.{_⊎_, inl, inr}
 use mathlib.Core.Path.{_≡_, refl, sym, ap, _∙_, subst}
-use mathlib.Core.List.{List, [], _++_}
+use mathlib.Core.List.{List, []}
 use lib.Dec.{leb}
 use lib.ListN.{length, take, drop, length-drop}
 use lib.Seq.{take-add, take-all}
@@ -23,7 +23,6 @@ use Rattle.wire.specs.Wire.{answer-fits, answer-put, put-written, held-of, out-
 use Rattle.wire.proofs.Ends.{held-room, held-most}
 use Rattle.wire.proofs.Steps.{is-fed}
 use Rattle.lizardwire.specs.declared.Turn.{Turn}
-use Rattle.lizardwire.specs.declared.Run.{Run}
 use Rattle.lizardwire.specs.Program.{turn-told, BlockTaken}
 
 -- ---- what a call hands back is within its block and its output

@@ -14,5 +14,6 @@ offset-told ps outward d out =
     let o : Outline = given ps in
     let w : OffsetWritten = offset-write o outward d out in
     record {
-      passed = λ q. told-accounts (o .count) 1 d (outline-load o outward d) (w .refusal) (w .collapses) (w .divides) (w .joins) (write-accounts o outward d out q);
+      passed = λ q. told-accounts (o .count) 1 d (outline-load o outward d) (w .refusal) (w .collapses) (w .divides) (w .joins) (write-accounts o outward d out .passed q);
+      refused = write-accounts o outward d out .refused;
     }

@@ -8,7 +8,7 @@ use lib.Dec.{leb}
 use lib.ListN.{length}
 use lib.Ieee.{Float, eq}
 use Rattle.error.specs.declared.Refusal.{Refusal}
-use Rattle.error.specs.declared.Refusal.the-variants.{Granted}
+use Rattle.error.specs.declared.Refusal.the-variants.{Granted, Shape}
 use Rattle.polygon.specs.declared.Outline.{Outline}
 use Rattle.front.specs.declared.Loaded.{Loaded}
 use Rattle.offset.specs.declared.Offset.{Offset}
@@ -25,26 +25,30 @@ use Rattle.offset.proofs.Other.{Other, granted-other}
 use Rattle.offset.proofs.Demand.{outline-demand}
 use Rattle.offset.proofs.Answers.{distance-finite, Own, other-own, self-own, answer-demand, offset-demand, offset-before}
 
-module _ (o : Outline) (outward : Bool) (d : Float) (q : proper 128 (o .points) (o .count) ≡ true) where
+module _ (o : Outline) (outward : Bool) (d : Float) where
   abbrev a : Offset
   a = offset o outward d
 
   abbrev l : Loaded
   l = outline-load o outward d
 
-  swept-counts : granted (check-distance d) ≡ true → eq d zero-float ≡ false → record { c = a .collapses; d = a .divides; j = a .joins } ≡ tally (events (run (givens d l) l))
+  swept-counts : proper 128 (o .points) (o .count) ≡ true → granted (check-distance d) ≡ true → eq d zero-float ≡ false
+      → record { c = a .collapses; d = a .divides; j = a .joins } ≡ tally (events (run (givens d l) l))
   unfolding offset offset-by offset-from offset-counted sweep
-  swept-counts g z = rw (q, g, z) (outline-demand o outward d q (distance-finite d g) .counted)
+  swept-counts q g z = rw (q, g, z) (outline-demand o outward d q (distance-finite d g) .counted)
 
   plain-counts : (u : Refusal) (p : Outline) → a ≡ offset-plain u p → NoEvent (a .collapses) (a .divides) (a .joins)
   unfolding offset-plain
   plain-counts u p e = record { collapses = ap (λ (x : Offset). x .collapses) e; divides = ap (λ (x : Offset). x .divides) e; joins = ap (λ (x : Offset). x .joins) e }
 
 pub offset-counts : OffsetCounted
-offset-counts o outward d q = record {
-  swept = swept-counts o outward d q;
-  refused = λ g. plain-counts o outward d q (check-distance d) no-outline (offset-before o outward d .refused q g);
-  unmoved = λ z. plain-counts o outward d q Granted o (offset-before o outward d .unmoved q z);
+offset-counts o outward d = record {
+  passed = λ q. record {
+    swept = swept-counts o outward d q;
+    refused = λ g. plain-counts o outward d (check-distance d) no-outline (offset-before o outward d .refused q g);
+    unmoved = λ z. plain-counts o outward d Granted o (offset-before o outward d .unmoved q z);
+  };
+  refused = λ q. plain-counts o outward d Shape no-outline (offset-before o outward d .improper q);
 }
 
 -- ---- to lent output
@@ -63,10 +67,13 @@ handed-on n r u v c e j h o = answer-demand n r u v c e j (h .counts) (h .most) 
 
 pub write-accounts : WriteAccounts
 unfolding offset-write offset-told write-offset
-write-accounts o outward d out q =
+write-accounts o outward d out =
     let a : Offset = offset o outward d in
     record {
-      bounds = handed-on (o .count) 1 (a .refusal) (write-offset a out) (a .collapses) (a .divides) (a .joins) (offset-demand o outward d q)
-          (write-own (a .refusal) (granted (a .refusal)) (2 * a .shape .count) out);
-      counted = offset-counts o outward d q;
+      passed = λ q. record {
+        bounds = handed-on (o .count) 1 (a .refusal) (write-offset a out) (a .collapses) (a .divides) (a .joins) (offset-demand o outward d q)
+            (write-own (a .refusal) (granted (a .refusal)) (2 * a .shape .count) out);
+        counted = offset-counts o outward d .passed q;
+      };
+      refused = offset-counts o outward d .refused;
     }

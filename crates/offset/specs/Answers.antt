@@ -60,24 +60,33 @@ pub record Counted (distance : Float) (l : Loaded) (c e j : ℕ) : Type 0 where
   pub refused : granted (check-distance distance) ≡ false → NoEvent c e j
   pub unmoved : eq distance zero-float ≡ true → NoEvent c e j
 
+-- the same of a shape that passes 21 or, refused by it, comes to no front
+pub record ShapeCounted (passes : Bool) (distance : Float) (l : Loaded) (c e j : ℕ) : Type 0 where
+  pub passed : passes ≡ true → Counted distance l c e j
+  pub refused : passes ≡ false → NoEvent c e j
+
 abbrev pub OffsetCounted : Type 0
 OffsetCounted =
-    (o : Outline) (outward : Bool) (distance : Float) → proper 128 (o .points) (o .count) ≡ true →
-    Counted distance (outline-load o outward distance) ((offset o outward distance) .collapses) ((offset o outward distance) .divides)
-    ((offset o outward distance) .joins)
+    (o : Outline) (outward : Bool) (distance : Float) →
+    ShapeCounted (proper 128 (o .points) (o .count)) distance (outline-load o outward distance) ((offset o outward distance) .collapses)
+    ((offset o outward distance) .divides) ((offset o outward distance) .joins)
 
 -- the bounds and the counts, of whatever hands them on
 pub record Accounts (n r : ℕ) (distance : Float) (l : Loaded) (u : Refusal) (c e j : ℕ) : Type 0 where
   pub bounds : AnswerDemand n r u c e j
   pub counted : Counted distance l c e j
 
+pub record ShapeAccounts (passes : Bool) (n r : ℕ) (distance : Float) (l : Loaded) (u : Refusal) (c e j : ℕ) : Type 0 where
+  pub passed : passes ≡ true → Accounts n r distance l u c e j
+  pub refused : passes ≡ false → NoEvent c e j
+
 -- of an offset to lent output, whether or not 20 refuses it
 abbrev pub WriteAccounts : Type 0
 WriteAccounts =
-    (o : Outline) (outward : Bool) (distance : Float) (out : List Float) → proper 128 (o .points) (o .count) ≡ true →
-    Accounts (o .count) 1 distance (outline-load o outward distance) ((offset-write o outward distance out) .refusal)
-    ((offset-write o outward distance out) .collapses) ((offset-write o outward distance out) .divides)
-    ((offset-write o outward distance out) .joins)
+    (o : Outline) (outward : Bool) (distance : Float) (out : List Float) →
+    ShapeAccounts (proper 128 (o .points) (o .count)) (o .count) 1 distance (outline-load o outward distance)
+    ((offset-write o outward distance out) .refusal) ((offset-write o outward distance out) .collapses)
+    ((offset-write o outward distance out) .divides) ((offset-write o outward distance out) .joins)
 
 -- ---- the shape beside a refusal is empty
 

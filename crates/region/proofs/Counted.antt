@@ -4,7 +4,7 @@ use mathlib.Core.Path.{_≡_, refl, sym, ap, subst}
 use mathlib.Core.Bool.{true, false}
 use lib.Ieee.{Float, eq}
 use Rattle.error.specs.declared.Refusal.{Refusal}
-use Rattle.error.specs.declared.Refusal.the-variants.{Granted}
+use Rattle.error.specs.declared.Refusal.the-variants.{Granted, Shape}
 use Rattle.front.specs.declared.Loaded.{Loaded}
 use Rattle.region.specs.declared.Region.{Region}
 use Rattle.region.specs.declared.RegionOffset.{RegionOffset}
@@ -27,16 +27,17 @@ use Rattle.region.specs.Answers.{InsetCounted, InsetWriteAccounts}
 use Rattle.region.proofs.Demand.{region-demand}
 use Rattle.region.proofs.Answers.{inset-demand, inset-before}
 
-module _ (r : Region) (d : Float) (q : proper-region r ≡ true) where
+module _ (r : Region) (d : Float) where
   abbrev a : RegionOffset
   a = region-inset r d
 
   abbrev l : Loaded
   l = region-load r d
 
-  swept-counts : granted (check-distance d) ≡ true → eq d zero-float ≡ false → record { c = a .collapses; d = a .divides; j = a .joins } ≡ tally (events (run (givens d l) l))
+  swept-counts : proper-region r ≡ true → granted (check-distance d) ≡ true → eq d zero-float ≡ false
+      → record { c = a .collapses; d = a .divides; j = a .joins } ≡ tally (events (run (givens d l) l))
   unfolding region-inset inset-by inset-from region-counted region-sweep
-  swept-counts g z = rw (q, g, z) (region-demand r d q (distance-finite d g) .counted)
+  swept-counts q g z = rw (q, g, z) (region-demand r d q (distance-finite d g) .counted)
 
   plain-counts : (u : Refusal) (p : Region) → a ≡ region-plain u p → NoEvent (a .collapses) (a .divides) (a .joins)
   unfolding region-plain
@@ -44,10 +45,13 @@ module _ (r : Region) (d : Float) (q : proper-region r ≡ true) where
       record { collapses = ap (λ (x : RegionOffset). x .collapses) e; divides = ap (λ (x : RegionOffset). x .divides) e; joins = ap (λ (x : RegionOffset). x .joins) e }
 
 pub inset-counts : InsetCounted
-inset-counts r d q = record {
-  swept = swept-counts r d q;
-  refused = λ g. plain-counts r d q (check-distance d) no-region (inset-before r d .refused q g);
-  unmoved = λ z. plain-counts r d q Granted r (inset-before r d .unmoved q z);
+inset-counts r d = record {
+  passed = λ q. record {
+    swept = swept-counts r d q;
+    refused = λ g. plain-counts r d (check-distance d) no-region (inset-before r d .refused q g);
+    unmoved = λ z. plain-counts r d Granted r (inset-before r d .unmoved q z);
+  };
+  refused = λ q. plain-counts r d Shape no-region (inset-before r d .improper q);
 }
 
 -- ---- to lent output
@@ -59,11 +63,14 @@ told-same r u = either (λ (w : RegionWritten). w .refusal ≡ u) (granted u) (�
 
 pub inset-write-accounts : InsetWriteAccounts
 unfolding inset-write inset-told write-inset
-inset-write-accounts r d out q =
+inset-write-accounts r d out =
     let a : RegionOffset = region-inset r d in
     record {
-      bounds = handed-on (edges-of r (r .holes)) (suc (r .holes)) (a .refusal) ((rings-told (a .shape) (write-inset a out)) .refusal) (a .collapses) (a .divides) (a .joins)
-          (inset-demand r d q)
-          (subst (Own (a .refusal)) (sym (told-same (a .shape) (write-inset a out))) (write-own (a .refusal) (granted (a .refusal)) (needed (a .shape)) out));
-      counted = inset-counts r d q;
+      passed = λ q. record {
+        bounds = handed-on (edges-of r (r .holes)) (suc (r .holes)) (a .refusal) ((rings-told (a .shape) (write-inset a out)) .refusal) (a .collapses) (a .divides) (a .joins)
+            (inset-demand r d q)
+            (subst (Own (a .refusal)) (sym (told-same (a .shape) (write-inset a out))) (write-own (a .refusal) (granted (a .refusal)) (needed (a .shape)) out));
+        counted = inset-counts r d .passed q;
+      };
+      refused = inset-counts r d .refused;
     }

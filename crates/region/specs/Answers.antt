@@ -22,10 +22,10 @@ use Rattle.ring.specs.Ring.{vertex-at, edge-end}
 use Rattle.simple.specs.Simple.{check-simple}
 use Rattle.polygon.specs.Outlines.{relative-tolerance}
 use Rattle.offset.specs.Offsets.{check-distance}
-use Rattle.offset.specs.Answers.{AnswerDemand, Counted, Accounts, EmptyOutline}
+use Rattle.offset.specs.Answers.{AnswerDemand, ShapeCounted, ShapeAccounts, EmptyOutline}
 use Rattle.region.specs.Regions.{no-region, ring-points, ring-count, region-contains, distance-to-boundary, region-extent}
 use Rattle.region.specs.Checks.{check-region, load-rings, region-loaded, proper-region, region, region-given, without-holes}
-use Rattle.region.specs.Insets.{region-plain, load-region, region-inset}
+use Rattle.region.specs.Insets.{region-plain, region-inset}
 use Rattle.region.specs.Queries.{before, needed, region-write, written-region, inset-write, written-inset}
 use Rattle.region.specs.Demand.{edges-of, region-load}
 
@@ -39,16 +39,17 @@ InsetDemand =
 -- the counts handed back are those of the front's whole list of events
 abbrev pub InsetCounted : Type 0
 InsetCounted =
-    (r : Region) (distance : Float) → proper-region r ≡ true →
-    Counted distance (region-load r distance) ((region-inset r distance) .collapses) ((region-inset r distance) .divides)
-    ((region-inset r distance) .joins)
+    (r : Region) (distance : Float) →
+    ShapeCounted (proper-region r) distance (region-load r distance) ((region-inset r distance) .collapses)
+    ((region-inset r distance) .divides) ((region-inset r distance) .joins)
 
 -- the bounds and the counts of an inset to lent output, whether or not 20 refuses it
 abbrev pub InsetWriteAccounts : Type 0
 InsetWriteAccounts =
-    (r : Region) (distance : Float) (out : List Float) → proper-region r ≡ true →
-    Accounts (edges-of r (r .holes)) (suc (r .holes)) distance (region-load r distance) ((inset-write r distance out) .refusal)
-    ((inset-write r distance out) .collapses) ((inset-write r distance out) .divides) ((inset-write r distance out) .joins)
+    (r : Region) (distance : Float) (out : List Float) →
+    ShapeAccounts (proper-region r) (edges-of r (r .holes)) (suc (r .holes)) distance (region-load r distance)
+    ((inset-write r distance out) .refusal) ((inset-write r distance out) .collapses) ((inset-write r distance out) .divides)
+    ((inset-write r distance out) .joins)
 
 -- ---- the shape beside a refusal is empty
 
@@ -86,8 +87,7 @@ pub record InsetBeforeLoading (r : Region) (d : Float) : Type 0 where
   pub unmoved : proper-region r ≡ true → eq d zero-float ≡ true → region-inset r d ≡ region-plain Granted r
   -- 15 and 16 while loading
   pub loading : proper-region r ≡ true → granted (check-distance d) ≡ true → eq d zero-float ≡ false →
-      granted ((load-region r (vertex-at (r .outer .points) 0) d) .refusal) ≡ false →
-      region-inset r d ≡ region-plain ((load-region r (vertex-at (r .outer .points) 0) d) .refusal) no-region
+      granted ((region-load r d) .refusal) ≡ false → region-inset r d ≡ region-plain ((region-load r d) .refusal) no-region
 
 abbrev pub InsetBefore : Type 0
 InsetBefore = (r : Region) (d : Float) → InsetBeforeLoading r d

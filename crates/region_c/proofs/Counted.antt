@@ -36,7 +36,7 @@ told-accounts n r d l u c e j h = record { bounds = told-demand n r u c e j (h .
 made : (r : NewRegion) (d : Float) (out : List Float) → (granted (r .refusal) ≡ true → proper-region (r .shape) ≡ true) → MadeAccounts d r (inset-made r d out)
 unfolding inset-made inset-refused
 made r d out p = record {
-  passed = λ g. rw g (inset-write-accounts (r .shape) d out (p g));
+  passed = λ g. rw g (inset-write-accounts (r .shape) d out .passed (p g));
   refused = λ g. rw g (record { collapses = refl; divides = refl; joins = refl });
 }
 

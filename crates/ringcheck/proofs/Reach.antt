@@ -3,12 +3,13 @@ use Prim.Native.Nat.{ℕ, _+_, _*_, _<_}
 use native.Mathlib.Nat.{mul-pos}
 use native.Mathlib.Omega.{arith}
 use mathlib.Core.Path.{_≡_, refl, sym}
-use mathlib.Core.Bool.{Bool, true, false, _&&_, _||_}
+use mathlib.Core.Bool.{Bool, true, false, cond, _&&_, _||_}
 use borrow.Author.Tests.{eqb-true, eqb-false, eq-eqb, ne-eqb, lt-ltb}
 use lib.Dec.{ltb, eqb}
 use lib.IntN.{ℤ, pos}
 use lib.Ieee.{Float, nan, inf, fin, lt, le, eq, neg, ofBits, up, down}
 use lib.Ieee.Fits.{up-pos, down-pos}
+use Rattle.error.specs.declared.Refusal.the-variants.{Granted, Range, Room}
 use Rattle.math.specs.Number.{abs}
 use Rattle.ringcheck.specs.Checks.{max-coordinate, beyond, vertex-refusal}
 use Rattle.ringcheck.specs.Walks.{NanRefused}
@@ -43,6 +44,11 @@ in-reach-is (inf true) = refl
 in-reach-is (inf false) = refl
 in-reach-is (fin s m e) = between s 1953125 (pos 9) m e (omega arith)
 
+nan-north : (room ring n k : ℕ) (x : Float) (b : Bool) → b ≡ false
+    → cond b (Range ring x) (cond (beyond nan) (Range ring nan) (cond (ltb k room) Granted (Room ring n room))) ≡ Range ring nan
+unfolding beyond abs le lt eq
+nan-north room ring n k x b e = rw e refl
+
 pub nan-refused : NanRefused
 unfolding vertex-refusal beyond abs le lt eq
-nan-refused room ring n k north = refl
+nan-refused = record { east = λ room ring n k y. refl; north = λ room ring n k x e. nan-north room ring n k x (beyond x) e }

@@ -30,7 +30,7 @@ min-relative-area = ofBits binary64 0x3d719799812dea11
 unfoldable pub kept : List Float → ℕ → ℕ
 kept ps n = cond (ltb 1 n && same (vertex-at ps (n - 1)) (vertex-at ps 0)) (n - 1) n
 
--- question 5 of a number: it is not within ±1e9. A NaN is not; the Rust asks for `>`, and its points are never NaN.
+-- question 5 of a number: it is not within ±1e9. A NaN is beyond it; the Rust asks for `>`, and its points are never NaN.
 unfoldable pub beyond : Float → Bool
 beyond x = not (le (abs x) max-coordinate)
 

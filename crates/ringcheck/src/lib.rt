@@ -34,7 +34,7 @@ pub(crate) fn kept(ps: &[f64], n: usize) -> usize
     ring::choose((1 < n) & closes, last, n)
 }
 
-// Whether a number is not within the range. A NaN is not.
+// Whether a number is not within the range. A NaN is beyond it.
 pub(crate) fn beyond(x: f64) -> bool
     ensures { λ r. ⌜ r ≡ Checks.beyond x ⌝ }
 {

@@ -2,7 +2,7 @@
 use Prim.Native.Nat.{ℕ, zero, suc, _+_, _≤_, _<_}
 use native.Mathlib.Nat.{le-trans, zero-add}
 use native.Mathlib.Omega.{arith}
-use mathlib.Core.Bool.{Bool, true, false, cond, _&&_}
+use mathlib.Core.Bool.{Bool, true, false, cond, _&&_, false≢true}
 use mathlib.Core.Logic.{_⊎_, inl, inr}
 use mathlib.Core.Path.{_≡_, refl, sym, ap, _∙_, subst}
 use mathlib.Core.List.{List, [], _∷_, _++_}
@@ -20,7 +20,8 @@ use Rattle.streaming.specs.declared.Outcome.the-variants.{Full}
 use Rattle.streaming.proofs.Parts.{end-from}
 use Rattle.streaming.proofs.Progress.{answered-room, stops-full}
 use Rattle.wire.specs.declared.Put.{Put}
-use Rattle.wire.specs.Wire.{answer-fits, answer-put, put-written, holds, stream-fed, feed-as, feed-told, last-line, finished, finish-written, finish-told, EndedBy, EndsApart, Finishes, FinishesFitting}
+use Rattle.wire.specs.Wire.{answer-fits, answer-put, put-written, holds, stream-fed, feed-as, feed-told, last-line, finished, finish-written, finish-told}
+use Rattle.wire.specs.Wire.{EndedBy, EndsApart, Finishes, FinishesFitting, LastUnfit, FinishedBy, FinishApart}
 use Rattle.wire.proofs.Steps.{ends-as, is-fed, short-ends, much-ends}
 
 -- a line that has a byte is answered
@@ -142,4 +143,54 @@ ends-apart block held count out =
       unheld = λ h. short-ends block held count out h _;
       miscounted = λ h c. much-ends block held count out h c _;
       enough = enough-ends block held count out;
+    }
+
+-- ---- how the input's end was answered
+
+module _ (held : List ℕ) (count : ℕ) (out : List ℕ) (h : holds held count ≡ true) where
+  -- only a line's answer does not fit
+  is-last : (finished held count out) .fits ≡ false → last-line held count ≡ true
+  unfolding finished
+  is-last f = go (last-line held count) f
+    where
+      go : (t : Bool) → (cond t (answer-put (take count held) out 0) (record { fits = holds held count; used = 0; needed = 0 })) .fits ≡ false → t ≡ true
+      go true g = refl
+      go false g = absurd (false≢true (sym g ∙ h))
+
+  last-put : last-line held count ≡ true → finished held count out ≡ answer-put (take count held) out 0
+  unfolding finished
+  last-put l = rw l refl
+
+  last-needed : last-line held count ≡ true → (finished held count out) .needed ≡ length (answered (take count held))
+  unfolding answer-put
+  last-needed l = ap (λ (p : Put). p .needed) (last-put l)
+
+  last-unfit : (finished held count out) .fits ≡ false → LastUnfit held count out
+  unfolding answer-put answer-fits last-line
+  last-unfit f =
+      let l = is-last f in
+      record {
+        last = leb-true 1 count (and-right (holds held count) _ l);
+        unfit = subst (λ (n : ℕ). length out < n) (zero-add (length (answered (take count held))))
+            (leb-false (0 + length (answered (take count held))) (length out) (sym (ap (λ (p : Put). p .fits) (last-put l)) ∙ f));
+      }
+
+  last-ends : FinishedBy held count out
+  unfolding finish-told how-ended
+  last-ends = go ((finished held count out) .fits) refl
+    where
+      ends : (t : Bool) → (finished held count out) .fits ≡ t → (finish-told held count out) .outcome ≡ how-ended t ((finished held count out) .needed)
+      ends t e = ends-as [] held count out (held-room held count h) (held-most held count h) _ ∙ ap (λ (u : Bool). how-ended u ((finished held count out) .needed)) e
+
+      go : (t : Bool) → (finished held count out) .fits ≡ t → FinishedBy held count out
+      go true e = inl (ends true e, finishes-fitting held count out h e)
+      go false e = inr (ends false e ∙ ap Full (last-needed (is-last e)), last-unfit e)
+
+pub finish-apart : FinishApart
+unfolding finish-told
+finish-apart held count out =
+    record {
+      unheld = λ h. short-ends [] held count out h _;
+      miscounted = λ h c. much-ends [] held count out h c _;
+      enough = last-ends held count out;
     }

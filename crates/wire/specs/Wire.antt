@@ -141,6 +141,28 @@ FinishesFitting =
     (held : List ℕ) (count : ℕ) (out : List ℕ) → holds held count ≡ true → ((finished held count out) .fits) ≡ true
     → take ((finish-told held count out) .used) (finish-written held count out) ≡ written (machine held count [])
 
+-- the input's end ends a line, and its answer does not fit the output
+pub record LastUnfit (held : List ℕ) (count : ℕ) (out : List ℕ) : Type 0 where
+  pub last : 1 ≤ count
+  pub unfit : length out < length (answered (take count held))
+
+-- after a call at the input's end with the memory that it needs: what is written is what the machine then writes, or the last line's answer
+-- does not fit the output, with its bytes
+abbrev pub FinishedBy : List ℕ → ℕ → List ℕ → Type 0
+FinishedBy held count out =
+    ((finish-told held count out) .outcome ≡ Whole
+    × take ((finish-told held count out) .used) (finish-written held count out) ≡ written (machine held count []))
+    ⊎ ((finish-told held count out) .outcome ≡ Full (length (answered (take count held))) × LastUnfit held count out)
+
+-- How the input's end was answered is told apart as a block's is.
+pub record FinishEnds (held : List ℕ) (count : ℕ) (out : List ℕ) : Type 0 where
+  pub unheld : length held < most-held → (finish-told held count out) .outcome ≡ Unheld
+  pub miscounted : most-held ≤ length held → most-held < count → (finish-told held count out) .outcome ≡ Miscounted
+  pub enough : holds held count ≡ true → FinishedBy held count out
+
+abbrev pub FinishApart : Type 0
+FinishApart = (held : List ℕ) (count : ℕ) (out : List ℕ) → FinishEnds held count out
+
 -- opens every definition above, for a proof that computes with all of them
 unfoldable pub open-wire : Unit {0}
 unfolding answer-fits answer-put needed-by put-written line-of feed-of step-told held-of out-of holds stuck stream-fed told feed-as feed-told last-line finished finish-written finish-told

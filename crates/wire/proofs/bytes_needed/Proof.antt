@@ -1,6 +1,5 @@
 -- `wire::bytes_needed` meets its contract. Assumes nothing.
 use borrow.Author.Needs.{needs}
-use Rattle.wire.specs.Wire.{needed-by}
 use Rattle.wire.proofs.Puts.{both-fits, both-told}
 use Rattle.wire.proofs.bytes_needed.Statement.{statement}
 use Rattle.wire.proofs.bytes_needed.Tie as tie
