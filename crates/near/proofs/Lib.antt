@@ -1,3 +1,4 @@
 pub mod Rounded
 pub mod Clear
 pub mod Leads
+pub mod Least

@@ -1,30 +1,28 @@
--- The distance to a ring's nearest point is its least gap, where that is below infinity; and so it is where the first edge's is. Assumes nothing.
+-- The distance to a ring's nearest point is its least gap, where the first edge's is below infinity. Assumes nothing.
 use Prim.Native.Nat.{ℕ, _<_}
 use mathlib.Core.Path.{_≡_, refl, sym, ap, _∙_, subst}
-use mathlib.Core.Logic.{_⊎_, inl, inr}
 use mathlib.Core.Bool.{Bool, true, false, _&&_, false≢true}
 use mathlib.Core.List.{List}
 use borrow.Author.Tests.{ltb-true}
 use lib.Dec.{T, ltb}
-use lib.Ieee.{Float, nan, inf, fin, binary64, lt, le, fits}
+use lib.Ieee.{Float, binary64, lt, le, fits}
 use lib.Ieee.Fits.{sub-fits}
 use lib.Ieee.Bits.{ofBits-fits}
 use Rattle.hypotenuse.specs.Hypot.{hypot}
-use Rattle.math.specs.Number.{abs, finite, distance, infinity, zero-float, mul, open-number}
-use Rattle.math.proofs.Laws.{hypot-unsigned}
+use Rattle.math.specs.Number.{infinity, zero-float, mul, open-number}
 use Rattle.plane.specs.declared.PlanarPoint.{PlanarPoint}
 use Rattle.plane.specs.Plane.{sub, dot}
 use Rattle.plane.specs.Points.{length-of, distance-to}
 use Rattle.segment.specs.Segments.{closest-on-segment}
 use Rattle.ring.specs.Ring.{vertex-at, edge-end}
-use Rattle.loops.proofs.Laws.{no-round, rounds-keep}
+use Rattle.loops.proofs.Laws.{no-round}
 use Rattle.near.specs.declared.Nearest.{Nearest}
 use Rattle.near.specs.Near
-use Rattle.near.specs.Near.{nearer, gap-to, nearest-step, none-yet, nearest, clearly}
+use Rattle.near.specs.Near.{nearest, clearly}
 use Rattle.near.proofs.Rounded
 use Rattle.near.proofs.Clear.{tiny-number, clearly-less}
+use Rattle.near.proofs.Least.{nearest-foot}
 use Rattle.meet.proofs.Meetings.{walk-found}
-use Rattle.offset.proofs.Choices.{both}
 use Rattle.clear.specs.Gaps.{falls-short}
 use Rattle.clear.proofs.Folds.{short-step, gap-below}
 use Rattle.ringclear.specs.Rings.{surely}
@@ -78,39 +76,12 @@ module _ (ps : List Float) (n : ℕ) (p : PlanarPoint) where
       walk-found (short-step ps n p infinity) (λ (j : ℕ). falls-short p (vertex-at ps j) (edge-end ps n j) infinity) (λ (j : ℕ) (s : Bool). refl) n 0 (no-round (short-step ps n p infinity) false) l
       (edge-below p (vertex-at ps 0) (edge-end ps n 0) h)
 
-  -- no edge so far, or the gap is the distance to the foot
-  unfoldable Footed : Nearest → Type 0
-  Footed t = (t .gap ≡ infinity) ⊎ (t .gap ≡ length-of (sub (t .foot) p))
-
-  foot-kept : Footed (nearest ps n p)
-  unfolding nearest nearest-step nearer gap-to Footed
-  foot-kept =
-      rounds-keep (nearest-step ps n p) (λ (k : ℕ) (t : Nearest). Footed t) (none-yet p) (inl refl)
-      (λ k t h. both Footed (lt (length-of (sub (closest-on-segment p (vertex-at ps k) (edge-end ps n k)) p)) (t .gap)) (inr refl) h) n
-
-  finite-length : (x : Float) → abs x ≡ x → lt x infinity ≡ true → distance x ≡ x
-  unfolding abs lt finite distance open-number
-  finite-length nan e h = absurd (false≢true h)
-  finite-length (inf false) e h = absurd (false≢true h)
-  finite-length (inf true) e h = absurd (false≢true (cc))
-  finite-length (fin s m d) e h = refl
-
-  distance-is : lt ((nearest ps n p) .gap) infinity ≡ true → distance-to p ((nearest ps n p) .foot) ≡ (nearest ps n p) .gap
-  unfolding distance-to length-of Footed lt open-number
-  distance-is h = go foot-kept
-    where
-      go : Footed (nearest ps n p) → distance-to p ((nearest ps n p) .foot) ≡ (nearest ps n p) .gap
-      go (inl e) = absurd (false≢true (ap (λ (x : Float). lt x infinity) (sym e) ∙ h))
-      go (inr e) =
-          let v = sub ((nearest ps n p) .foot) p in
-          finite-length (hypot (v .east) (v .north)) (hypot-unsigned (v .east) (v .north)) (ap (λ (x : Float). lt x infinity) (sym e) ∙ h) ∙ sym e
-
   -- ---- what the code asks
   module _ (least : Float) (a b : PlanarPoint) (s : Bool) (ea : a ≡ vertex-at ps 0) (eb : b ≡ edge-end ps n 0) (es : s ≡ surely p a b) where
     pub reaches-gap : (r : Bool) → (ltb 0 n && s) ≡ true → r ≡ le least ((nearest ps n p) .gap) → r ≡ le least (distance-to p ((nearest ps n p) .foot))
     reaches-gap r h e =
         let c = parts (ltb 0 n) s h in
-        e ∙ ap (le least) (sym (distance-is (gap-finite (ltb-true 0 n (c .0)) (rw (← ea, ← eb) (sym es ∙ c .1)))))
+        e ∙ ap (le least) (sym (nearest-foot ps n p .below (gap-finite (ltb-true 0 n (c .0)) (rw (← ea, ← eb) (sym es ∙ c .1)))))
 
   pub reaches-foot : (least : Float) (t : Nearest) (g : Float) → t ≡ nearest ps n p → g ≡ distance-to p (t .foot) → le least g ≡ le least (distance-to p ((nearest ps n p) .foot))
   reaches-foot least t g e f = ap (le least) (f ∙ ap (λ (x : Nearest). distance-to p (x .foot)) e)
