@@ -1,0 +1,15 @@
+pub mod Sizes
+pub mod Extents
+pub mod RegionExtents
+pub mod Gaps
+pub mod Rings
+pub mod DoublesKept
+pub mod Outlines
+pub mod Regions
+pub mod Lent
+pub mod Edges
+pub mod Stands
+pub mod Drawn
+pub mod DrawnRings
+pub mod Jobs
+pub mod Given

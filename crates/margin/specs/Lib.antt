@@ -1,0 +1,4 @@
+pub mod Margin
+pub mod Lent
+pub mod Drawn
+pub mod Jobs
