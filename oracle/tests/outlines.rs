@@ -693,7 +693,7 @@ fn wrong_answers_are_wrong() {
 fn the_chosen_jobs_are_all_there() {
     let blocks = include_str!("../chosen.jobs").split("\n\n").skip(1);
     let blocks: Vec<(&str, &str)> = blocks.filter_map(|block| block.split_once('\n')).collect();
-    assert_eq!(blocks.len(), 18);
+    assert_eq!(blocks.len(), 21);
     for (words, jobs) in blocks {
         assert!(words.starts_with("# ") && !jobs.contains('#'), "{words}");
         let jobs: BTreeSet<&str> = jobs.lines().collect();
