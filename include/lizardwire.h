@@ -19,9 +19,9 @@
  * it was. A granted call changes only the numbers that it writes.
  *
  * A ring that an offset by a distance above 0 gives is simple, on the right side
- * and clear of its source, and keeps the distance at each of its vertices. It need
- * not be all that is left. Where a narrow place closes, the part behind it can be
- * missing:
+ * and clear of its source, and keeps the distance at each of its vertices but for a
+ * tolerance; lw_inset says what that is in truth. It need not be all that is left.
+ * Where a narrow place closes, the part behind it can be missing:
  * (0,0) (10,0) (6,5) (10,10) (0,10) (4,5) inset by 1.2 gives one of two triangles;
  * (8,6) (2,12) (4,14) (-4,14) (-2,12) (-8,6) inset by 1.5 keeps 0.14 of an area of
  * 19.3. Nor does 16 always mean that nothing is left: the square from (0,0) to
@@ -154,10 +154,14 @@ LwArea lw_area(const double *outline, size_t count);
 
 /* The ring that the edges make once they have moved inward by the distance,
  * corners mitred, written to `out`. Refusals: 21, 13, 14, then 4, 5, 6 and 15 to
- * 18 as the offset meets them, then 20. At distance 0 it is the outline itself. */
+ * 18 as the offset meets them, then 20. At distance 0 it is the outline itself.
+ * Above 0 each of its vertices lies, measured exactly, at least
+ *     distance - 2e-9 * (1 + distance + largest) - 1e-15 * largest
+ * from every edge of the outline, `largest` being the largest absolute coordinate
+ * of the outline and nothing being rounded. */
 LwOffset lw_inset(const double *outline, size_t count, double distance, double *out, size_t out_count);
 
-/* Outward, likewise. */
+/* Outward, likewise, but of exact distances nothing is promised. */
 LwOffset lw_outset(const double *outline, size_t count, double distance, double *out, size_t out_count);
 
 /* ---- regions and job lines */
@@ -193,7 +197,9 @@ LwRegion lw_region(const double *numbers, size_t count, const size_t *lengths, s
 
 /* The region is checked as lw_region does (1 to 12), then its outer ring moves
  * in and its holes grow. Refusals: 1 to 12, 13, 14, then 4, 5, 6 and 15 to 19
- * as the offset meets them, then 20. */
+ * as the offset meets them, then 20. Above 0 each vertex of each ring that is
+ * written lies at least as far as lw_inset says from every edge of every ring
+ * handed in, `largest` being the largest absolute coordinate of them all. */
 LwRegionOffset lw_region_inset(const double *numbers, size_t count, const size_t *lengths, size_t rings,
                                double distance, double *out, size_t out_count);
 

@@ -140,11 +140,18 @@ class Outline:
         return Nearest(answer.distance, (answer.east, answer.north))
 
     def inset(self, distance: float) -> Cage:
-        """The ring inside at that distance. Refused with 13 to 18, or with 4 to 6 of the result."""
+        """The ring inside at that distance. Refused with 13 to 18, or with 4 to 6 of the result.
+
+        Above 0 each of its vertices lies, measured exactly, at least
+
+            distance - 2e-9 * (1 + distance + largest) - 1e-15 * largest
+
+        from every edge of the outline, ``largest`` being the outline's largest absolute coordinate and nothing being rounded.
+        """
         return self._offset("lw_inset", distance)
 
     def outset(self, distance: float) -> Cage:
-        """The ring outside at that distance, likewise."""
+        """The ring outside at that distance, likewise, but of exact distances nothing is promised."""
         return self._offset("lw_outset", distance)
 
     def _offset(self, name: str, distance: float) -> Cage:
@@ -201,7 +208,11 @@ class Region:
         return _parted(self._numbers, self._lengths)
 
     def inset(self, distance: float) -> Cage:
-        """The region inside: the outer ring moves in, the holes grow. Refused with 13 to 19, or with 4 to 6 of the result."""
+        """The region inside: the outer ring moves in, the holes grow. Refused with 13 to 19, or with 4 to 6 of the result.
+
+        Above 0 each vertex lies at least as far as :meth:`Outline.inset` says from every edge of every ring of this region,
+        ``largest`` being the largest absolute coordinate of them all.
+        """
         out = lent(_library.REGION_NUMBERS)
         given = *numbers_in(self._given[0]), *wholes_in(self._given[1])
         answer = call("lw_region_inset", *given, float(distance), out, len(out))
@@ -232,6 +243,7 @@ def inset(rings: Union[RingLike, Iterable[RingLike]], distance: float) -> Cage:
 
     ``rings`` is one ring of points, or a list of rings: the outer one, then the holes.
     Raises :class:`Refused`, whose words say why there is none.
+    How far its vertices lie from the rings at least, :meth:`Outline.inset` and :meth:`Region.inset` say.
     """
     listed = _rings(rings)
     return Outline(listed[0]).inset(distance) if len(listed) == 1 else Region(listed).inset(distance)

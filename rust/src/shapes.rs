@@ -68,12 +68,14 @@ impl Outline {
         slices::nearest(&self.numbers, point)
     }
 
-    /// The outline inside this one at that distance: 13, 14, 15 to 18, and 4 to 6 of its result.
+    /// The outline inside this one at that distance: 13, 14, 15 to 18, and 4 to 6 of its result. Above 0 each of its
+    /// vertices lies, measured exactly, at least distance − 2e-9 × (1 + distance + largest) − 1e-15 × largest from every edge of
+    /// this one, `largest` being the largest absolute coordinate of this one and nothing being rounded.
     pub fn inset(&self, distance: f64) -> Result<Self, Refusal> {
         self.inset_counted(distance).0
     }
 
-    /// The outline outside this one at that distance, likewise.
+    /// The outline outside this one at that distance, likewise, but of exact distances nothing is promised.
     pub fn outset(&self, distance: f64) -> Result<Self, Refusal> {
         self.outset_counted(distance).0
     }
@@ -141,7 +143,8 @@ impl Region {
     }
 
     /// The rings of the region inside this one at that distance: the outer ring moves in, the holes grow: 13, 14, 15 to 19, and
-    /// 4 to 6 of the result.
+    /// 4 to 6 of the result. Above 0 each vertex lies at least as far as [`Outline::inset`] says from every edge of every ring of
+    /// this one, `largest` being the largest absolute coordinate of them all.
     pub fn inset(&self, distance: f64) -> Result<Vec<Vec<Point>>, Refusal> {
         self.inset_counted(distance).0
     }

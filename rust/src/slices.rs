@@ -113,7 +113,8 @@ fn offset_told(a: ffi::LwOffset) -> (Result<usize, Refusal>, Events) {
 }
 
 /// Writes the inset of an outline handed in to `out`, and says how many vertices it has: 21, 13, 14, what the offset meets, then 20.
-/// The completed events stand beside it, refused or not.
+/// The completed events stand beside it, refused or not. Above 0 its vertices lie at least as far from the
+/// outline's edges as [`Outline::inset`](crate::Outline::inset) says.
 pub fn inset(outline: &[f64], distance: f64, out: &mut [f64]) -> (Result<usize, Refusal>, Events) {
     // SAFETY: both pointers lead to as many numbers as are said, and a `&mut` is apart from a `&`.
     offset_told(unsafe {
@@ -127,7 +128,7 @@ pub fn inset(outline: &[f64], distance: f64, out: &mut [f64]) -> (Result<usize, 
     })
 }
 
-/// Writes the outset, likewise.
+/// Writes the outset, likewise, but of exact distances nothing is promised.
 pub fn outset(outline: &[f64], distance: f64, out: &mut [f64]) -> (Result<usize, Refusal>, Events) {
     // SAFETY: as for `inset`.
     offset_told(unsafe {
@@ -161,7 +162,8 @@ pub fn region(numbers: &[f64], lengths: &[usize], out: &mut [f64]) -> Result<Rin
     })
 }
 
-/// Writes the inset of the region of these numbers to `out`: 1 to 14, what the offset meets, then 20.
+/// Writes the inset of the region of these numbers to `out`: 1 to 14, what the offset meets, then 20. Above 0 its
+/// vertices lie at least as far from the edges of the rings handed in as [`Region::inset`](crate::Region::inset) says.
 pub fn region_inset(
     numbers: &[f64],
     lengths: &[usize],
