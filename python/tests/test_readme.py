@@ -3,9 +3,11 @@ import doctest
 import os
 import re
 import unittest
+from fractions import Fraction
 
 from lizardwire import Outline, Refused, inset
 from tests.support import TOP
+from tests.test_margin import ONE, PARTS, promised, units
 
 
 def points(words):
@@ -63,6 +65,13 @@ class Readme(unittest.TestCase):
         self.assertRegex(one[3], "^two such triangles:")
         self.assertEqual((f"the upper triangle, area {kept}", due), (two[2], two[3].split(",")[0]))
         self.assertEqual((number, left), (four[2].split(",")[0], four[3].split(",")[0]))
+
+    def test_the_margins(self):
+        rows = re.findall(r"^   \| ([\d.e]+) \| ([\d.e]+) \| (\S+) \|$", self.text, re.M)
+        self.assertEqual(len(rows), 6)
+        for extent, distance, margin in rows:
+            exact = Fraction(promised(ONE, units(float(distance)), units(float(extent))), PARTS * ONE)
+            self.assertEqual(exact, 0 if margin == "nothing" else Fraction(margin))
 
     def test_nearer_between_vertices(self):
         shape, distance, corner, gap = re.search(r"(\(0,0\)\S*) inset (\S+) passes (\S+) at ([\d.]+)\.\n", self.text).groups()
