@@ -49,7 +49,7 @@ OutlineMargin =
 
 -- ---- more rings, one after the other in ps; ring l has `getD lengths l` vertices
 
--- `rings` rings are handed back; ring k is the numbers `ring k`, with `count k` vertices, and keeps the margin from each ring that was drawn
+-- `rings` rings are handed back; ring k is the numbers `ring k`, with `count k` vertices. Each keeps the margin from each ring drawn.
 pub record DrawnRings (d : Float) (lengths : List ℕ) (ps : List Float) (rings : ℕ) (ring : ℕ → List Float) (count : ℕ → ℕ) : Type 0 where
   pub most : ℕ
   pub largest : Largest ps (total lengths) most

@@ -1,5 +1,5 @@
--- R-10 in numbers that can be worked out by hand: units, a margin, and the point (3, 5) above the edge from (0, 0) to (10, 0), whose nearest
--- point is (3, 0), at the fraction 3 / 10 and at the distance 5. Proved in `proofs/Examples.antt`. Assumes nothing.
+-- R-10 in numbers that can be worked out by hand: units, a margin, and the point (3, 5) above the edge from (0, 0) to (10, 0), whose
+-- nearest point is (3, 0), at the fraction 3 / 10 and at the distance 5. Proved in `proofs/Examples.antt`. Assumes nothing.
 use mathlib.Core.Path.{_≡_}
 use Prim.Native.Nat.{ℕ, _*_, _^_, _≤_, _<_}
 use lib.Ieee.{Float, binary64, ofBits}
