@@ -43,17 +43,20 @@ NewOutlineMargin =
 abbrev pub OutlineMargin : Type 0
 OutlineMargin =
     (ps : List Float) (d : Float) → Doubles ps → T (fits binary64 d) →
-    granted ((outline ps) .refusal) ≡ true → granted ((offset ((outline ps) .shape) false d) .refusal) ≡ true → lt zero-float d ≡ true →
+    granted ((outline ps) .refusal) ≡ true → granted ((offset ((outline ps) .shape) false d) .refusal) ≡ true →
+    lt zero-float d ≡ true →
     DrawnMargin d ps (length ps / 2) ((offset ((outline ps) .shape) false d) .shape .points)
     ((offset ((outline ps) .shape) false d) .shape .count)
 
 -- ---- more rings, one after the other in ps; ring l has `getD lengths l` vertices
 
 -- `rings` rings are handed back; ring k is the numbers `ring k`, with `count k` vertices. Each keeps the margin from each ring drawn.
-pub record DrawnRings (d : Float) (lengths : List ℕ) (ps : List Float) (rings : ℕ) (ring : ℕ → List Float) (count : ℕ → ℕ) : Type 0 where
+pub record DrawnRings (d : Float) (lengths : List ℕ) (ps : List Float) (rings : ℕ) (ring : ℕ → List Float) (count : ℕ → ℕ)
+    : Type 0 where
   pub most : ℕ
   pub largest : Largest ps (total lengths) most
-  pub far : (k l : ℕ) → k < rings → l < length lengths → RingFar (over d) most (ring k) (count k) (ring-in lengths ps l) (getD lengths l 0)
+  pub far : (k l : ℕ) → k < rings → l < length lengths →
+      RingFar (over d) most (ring k) (count k) (ring-in lengths ps l) (getD lengths l 0)
 
 -- numbers that pass 1 to 12
 abbrev pub RegionMargin : Type 0
@@ -72,7 +75,8 @@ given-ring o hs (suc l) = given-hole hs l
 
 -- M units are their largest absolute coordinate: none has more, and that of outline `ring` at `place` has as many
 pub record LargestGiven (o : Outline) (hs : List Outline) (M : ℕ) : Type 0 where
-  pub each : (l k : ℕ) → l ≤ length hs → k < 2 * (given-ring o hs l) .count → magnitude (getD ((given-ring o hs l) .points) k nan) ≤ M
+  pub each : (l k : ℕ) → l ≤ length hs → k < 2 * (given-ring o hs l) .count →
+      magnitude (getD ((given-ring o hs l) .points) k nan) ≤ M
   pub ring : ℕ
   pub place : ℕ
   pub held : ring ≤ length hs

@@ -8,7 +8,8 @@
 --            It is 0 where that is below 0, and then nothing is promised.
 --   i / j    a fraction from 0 to 1. It names the point a + (i / j) (b - a) of the edge from a to b.
 --   squares  a distance is a root, and seldom a whole number of units; j² times its square is one. Of two numbers from 0 up the larger
---            has the larger square. So `Far` compares (n / 10 ^ 15)² with the square of the distance, both times 10 ^ 30 j²: whole numbers.
+--            has the larger square. So `Far` compares (n / 10 ^ 15)² with the square of the distance, both times
+--            10 ^ 30 j², which makes both whole numbers.
 --
 -- Of one edge `Far` is proved in `proofs/Points.antt` (`far-edge`), what is stated here in `proofs/Units.antt` and `proofs/Nearest.antt`;
 -- `Examples.antt` has numbers that can be worked out by hand. Assumes nothing.
@@ -64,8 +65,10 @@ digits-of b = b % 2 ^ 52
 
 -- the units by the bits; a field of 2047 stands for an infinity or a NaN
 pub record UnitsOfBits : Type 0 where
-  pub over-is : (b : ℕ) → (field-of b ≡ 2047 → ⊥) → over (ofBits binary64 b) ≡ cond (sign-of b) 0 (field-units (field-of b) (digits-of b))
-  pub under-is : (b : ℕ) → (field-of b ≡ 2047 → ⊥) → under (ofBits binary64 b) ≡ cond (sign-of b) (field-units (field-of b) (digits-of b)) 0
+  pub over-is : (b : ℕ) → (field-of b ≡ 2047 → ⊥) →
+      over (ofBits binary64 b) ≡ cond (sign-of b) 0 (field-units (field-of b) (digits-of b))
+  pub under-is : (b : ℕ) → (field-of b ≡ 2047 → ⊥) →
+      under (ofBits binary64 b) ≡ cond (sign-of b) (field-units (field-of b) (digits-of b)) 0
 
 -- ---- the square of a distance
 

@@ -1,6 +1,5 @@
 -- What the nearest point of a boundary is: no edge is nearer, not even the closing one, and its gap is the distance to it, or
--- infinity.
--- Proved in `proofs/Least.antt`. Assumes nothing.
+-- infinity. Proved in `proofs/Least.antt`. Assumes nothing.
 use Prim.Native.Nat.{ℕ, _<_}
 use mathlib.Core.Path.{_≡_}
 use mathlib.Core.Bool.{true, false}
