@@ -28,7 +28,7 @@ const TWO_64: f64 = 18_446_744_073_709_551_616.0;
 const INFINITY: u64 = 0x7ff0_0000_0000_0000;
 
 /// A finite magnitude as `(m, e)`: it is m × 2^(e − 1074).
-fn parts(bits: u64) -> (u64, u32) {
+pub(crate) fn parts(bits: u64) -> (u64, u32) {
     let fraction = bits & ((1 << FRACTION) - 1);
     match (bits >> FRACTION) as u32 {
         0 => (fraction, 0),

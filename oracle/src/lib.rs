@@ -25,4 +25,5 @@ pub mod outlines;
 pub mod regions;
 pub mod stored;
 pub mod tally;
+pub mod turns;
 pub mod wrong;

@@ -1,11 +1,12 @@
-//! Questions about an outline or a region and the reference's answers, one a
-//! line.
+//! Questions about an outline, a region or points and the reference's answers,
+//! one a line.
 //!
 //! A line has fields of 16 lower-case hexadecimal digits, parted by commas: the
 //! kind, how many fields of answer follow, the answer, and the question's
 //! fields to the end of the line. Whole numbers stand as themselves, floats by
 //! their bits; in an answer a zero has no sign.
 
+use std::cmp::Ordering;
 use std::fmt;
 
 use crate::answer::{bits, checked_distance, of_offset, of_ring, points, Refusal, ROOM};
@@ -57,10 +58,16 @@ pub enum Question {
     RegionInset(f64, Given),
     /// A point in that region, and its measures, with a field changed.
     RegionPoint(Given, [f64; 2], Changed),
+    /// The turn from the first point by the second to the third.
+    Turn([[f64; 2]; 3]),
+    /// Whether two segments meet.
+    Meet([[[f64; 2]; 2]; 2]),
+    /// Whether two edges overlap that share the first point.
+    Fold([[f64; 2]; 3]),
 }
 
 /// How many kinds of questions there are.
-pub const KINDS: usize = 12;
+pub const KINDS: usize = 15;
 
 /// Names of the kinds.
 pub const NAMES: [&str; KINDS] = [
@@ -76,14 +83,19 @@ pub const NAMES: [&str; KINDS] = [
     "region",
     "inset",
     "within",
+    "turn",
+    "meet",
+    "fold",
 ];
 
 impl Question {
-    /// What a job asks: of one ring an offset of its outline, of more an inset
-    /// of their region.
+    /// What a job asks: of one ring an offset of its outline, or the outline
+    /// where that is refused; of more an inset of their region.
     pub fn of_job(job: &Job) -> Self {
         if job.counts.len() == 1 {
-            let outline = new_outline(&job.numbers).expect("an outline");
+            let Ok(outline) = new_outline(&job.numbers) else {
+                return Self::Outline(job.numbers.clone());
+            };
             let numbers = numbers_of(&outline);
             let count = numbers.len() as u64 / 2;
             return Self::Offset(job.outset, job.distance, Shape { count, numbers });
@@ -110,6 +122,9 @@ impl Question {
             Self::Region(_) => 9,
             Self::RegionInset(..) => 10,
             Self::RegionPoint(..) => 11,
+            Self::Turn(_) => 12,
+            Self::Meet(_) => 13,
+            Self::Fold(_) => 14,
         }
     }
 
@@ -146,6 +161,8 @@ impl Question {
                 regions::fields(given),
             ]
             .concat(),
+            Self::Turn(points) | Self::Fold(points) => raw(points.as_flattened()),
+            Self::Meet(segments) => raw(segments.as_flattened().as_flattened()),
         }
     }
 
@@ -164,6 +181,11 @@ impl Question {
             Self::Region(given) => regions::region(given),
             Self::RegionInset(distance, given) => regions::inset(given, *distance),
             Self::RegionPoint(given, point, changed) => regions::asked(given, *point, *changed),
+            Self::Turn([a, b, c]) => vec![turn_number(Outline::oracle_orient(*a, *b, *c))],
+            Self::Meet([p, q]) => vec![u64::from(Outline::oracle_segments_meet(*p, *q))],
+            Self::Fold([shared, a, b]) => {
+                vec![u64::from(Outline::oracle_folds_back(*shared, *a, *b))]
+            }
         }
     }
 
@@ -407,6 +429,16 @@ fn offset(outward: bool, distance: f64, shape: &Shape) -> Vec<u64> {
         stored(made.as_ref().ok()),
     ]
     .concat()
+}
+
+/// 0 straight, 1 left, 2 right, 3 where a number is not finite.
+pub fn turn_number(turn: f64) -> u64 {
+    match turn.partial_cmp(&0.0) {
+        Some(Ordering::Equal) => 0,
+        Some(Ordering::Greater) => 1,
+        Some(Ordering::Less) => 2,
+        None => 3,
+    }
 }
 
 /// How often each kind, and each number within it.

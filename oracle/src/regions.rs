@@ -174,10 +174,12 @@ pub fn inset(given: &Given, distance: f64) -> Vec<u64> {
 /// Number, whole number, place, distance and nearest point; number, area and
 /// perimeter.
 pub fn asked(given: &Given, point: [f64; 2], changed: Changed) -> Vec<u64> {
-    let region = made(given).expect("a region");
-    if !Held::new(&region).with(changed).proper() {
+    // Beside a refusal stands an empty region, which 21 refuses as well.
+    let region = made(given).ok();
+    let region = region.filter(|region| Held::new(region).with(changed).proper());
+    let Some(region) = region else {
         return vec![21, 0, 2, 0, 0, 0, 21, 0, 0];
-    }
+    };
     let p = checked(point);
     let [number, whole] = number_and_whole(p.as_ref().err());
     let (place, distance, foot) = match p {

@@ -4,9 +4,10 @@
 use std::collections::BTreeMap;
 
 use crate::answer::{answer_line, Answer};
-use crate::generate::{self, offset, question, region};
+use crate::generate::{self, offset, question, region, turning};
 use crate::job::{Job, LONGEST};
-use crate::outlines::Question;
+use crate::outlines::{new_outline, numbers_of, Question, Shape};
+use crate::regions::{Changed, Given};
 
 /// Job lines for places that few drawn jobs reach, with words about them.
 const CHOSEN: &str = include_str!("../chosen.jobs");
@@ -108,17 +109,72 @@ pub fn answers() -> String {
     lines.map(|line| answer_line(line).line() + "\n").collect()
 }
 
-/// The questions of the stored list: 700 of each of the seeds 1, 2 and 3, 500
-/// offsets of seed 22, 500 questions about regions of seed 1, and the chosen
-/// jobs: of one ring as an offset, of more as an inset of a region.
+/// A shape as it is stored.
+fn shape(numbers: &[f64]) -> Shape {
+    let outline = new_outline(numbers).expect("an outline");
+    Shape {
+        count: outline.vertices().len() as u64,
+        numbers: numbers_of(&outline),
+    }
+}
+
+/// Questions that no job asks, as docs/DIFFERENCES.md has them.
+pub fn chosen_questions() -> Vec<Question> {
+    // Rounded turns tell all of these points and rings otherwise: inside,
+    // outside, twice on the boundary; apart, and together.
+    let place = |ring: [f64; 6], point| Question::Contains(shape(&ring), point);
+    let clear = |a: [f64; 6], b: [f64; 6]| Question::Clearance(shape(&a), shape(&b));
+    // The middle of the hole's first edge, on it exactly, is told outside.
+    let given = Given {
+        lengths: vec![3, 3],
+        numbers: vec![
+            0.825897065619964,
+            0.8562508352412294,
+            15.39124853793309,
+            5.264144826356171,
+            -2.174102934380036,
+            25.264144826356173,
+            10.20842615453086,
+            3.6956738090765153,
+            11.850205399363,
+            4.192523396385756,
+            10.72931577694693,
+            6.9440986027311355,
+        ],
+    };
+    let middle = [11.02931577694693, 3.9440986027311355];
+    vec![
+        place([0.1, 0.4, 0.2, 0.4, 0.3, 0.2], [0.2, 0.3]),
+        place([0.0, 0.4, 0.3, 0.1, 0.3, 0.0], [0.2, 0.2]),
+        place([0.1, 0.2, 0.1, 0.4, 0.4, 0.7], [0.2, 0.5]),
+        place([0.1, 0.2, 0.0, 0.2, 0.7, 0.6], [0.4, 0.4]),
+        clear(
+            [0.2, 0.2, 0.2, 0.3, 0.0, 0.2],
+            [0.3, 0.4, 0.1, 0.4, 0.3, 0.2],
+        ),
+        clear(
+            [0.0, 0.2, 0.1, 0.2, 0.2, 0.4],
+            [0.3, 0.4, 0.0, 0.1, 0.4, 0.1],
+        ),
+        Question::RegionPoint(given, middle, Changed { place: 0, value: 0 }),
+    ]
+}
+
+/// The questions of the stored list: 700 of each of the seeds 1, 2 and 3, 700
+/// offsets of seed 27, 500 questions about regions of seed 200, 450 about
+/// points of seed 1, the chosen jobs: of one ring as an offset, or as an
+/// outline where that is refused, of more as an inset of a region; and the
+/// chosen questions.
 pub fn questions() -> impl Iterator<Item = Question> {
     let asked = (1..=3).flat_map(|seed| (0..700).map(move |index| question(seed, index)));
-    let asked = asked.chain((0..500).map(|index| offset(22, index)));
-    let asked = asked.chain((0..500).map(|index| region(1, index)));
-    asked.chain(chosen().map(|line| {
+    let asked = asked.chain((0..700).map(|index| offset(27, index)));
+    let asked = asked.chain((0..500).map(|index| region(200, index)));
+    let asked = asked.chain((0..450).map(|index| turning(1, index)));
+    let asked = asked.chain(chosen().map(|line| {
         let job = Job::read(line).expect("a chosen job");
         Question::of_job(&job)
-    }))
+    }));
+    asked.chain(chosen_questions())
 }
 
 /// crates/replay/stdin: the questions with their answers, then those with

@@ -1,9 +1,10 @@
 //! Questions stored with an answer that is wrong on purpose: a comparison that
 //! cannot fail shows by them.
 //!
-//! Of a question of each kind, granted and refused, every field of the answer is
-//! wrong once, the others being right; and once each it has a field too many
-//! and one too few. Some lines cannot be read at all.
+//! Of a question of each kind, granted and refused, or answered with 0 and with
+//! another number, every field of the answer is wrong once, the others being
+//! right; and once each it has a field too many and one too few. Some lines
+//! cannot be read at all.
 
 use crate::outlines::{Question, Shape, KINDS};
 use crate::regions::{Changed, Given};
@@ -66,6 +67,15 @@ pub fn asked() -> Vec<Question> {
         Question::RegionInset(2.0, given(&hole)),
         Question::RegionPoint(given(&hole), [3.0, 5.0], Changed { place: 0, value: 0 }),
         Question::RegionPoint(given(&hole), [3.0, 5.0], Changed { place: 1, value: 2 }),
+        // Straight, left by a last bit, right, unknown.
+        Question::Turn([[0.0, 0.0], [1.0, 2.0], [2.0, 4.0]]),
+        Question::Turn([[0.5, 0.5000000000000001], [12.0, 12.0], [24.0, 24.0]]),
+        Question::Turn([[24.0, 24.0], [12.0, 12.0], [0.5, 0.5000000000000001]]),
+        Question::Turn([[0.0, 0.0], [1.0, f64::NAN], [2.0, 4.0]]),
+        Question::Meet([[[0.0, 0.0], [4.0, 0.0]], [[2.0, 0.0], [2.0, 5.0]]]),
+        Question::Meet([[[0.0, 0.0], [4.0, 0.0]], [[2.0, 5e-324], [2.0, 5.0]]]),
+        Question::Fold([[4.0, 4.0], [4.0, 0.0], [4.0, 2.0]]),
+        Question::Fold([[12.0, 12.0], [0.5, 0.5000000000000001], [1.0, 1.0]]),
     ]
 }
 

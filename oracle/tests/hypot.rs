@@ -1,74 +1,12 @@
 //! The correctly rounded `hypot` against its definition, in big whole numbers.
 
+mod big;
+
 use std::cmp::Ordering;
 
+use big::{parts, Big};
 use oracle::draw::Draw;
 use oracle::hypot::exact;
-
-/// A whole number, 32 bits a limb, lowest first, no zero limb on top.
-#[derive(Clone, Debug, PartialEq, Eq)]
-struct Big(Vec<u32>);
-
-impl Big {
-    /// m × 2^shift.
-    fn new(m: u64, shift: u32) -> Self {
-        let mut limbs = vec![0; (shift / 32) as usize];
-        let wide = u128::from(m) << (shift % 32);
-        for k in 0..4 {
-            limbs.push((wide >> (32 * k)) as u32);
-        }
-        Self(limbs).trimmed()
-    }
-
-    fn trimmed(mut self) -> Self {
-        while self.0.last() == Some(&0) {
-            self.0.pop();
-        }
-        self
-    }
-
-    fn plus(&self, other: &Self) -> Self {
-        let mut sum = Vec::new();
-        let mut carry = 0_u64;
-        for k in 0..self.0.len().max(other.0.len()) {
-            carry += u64::from(*self.0.get(k).unwrap_or(&0));
-            carry += u64::from(*other.0.get(k).unwrap_or(&0));
-            sum.push(carry as u32);
-            carry >>= 32;
-        }
-        sum.push(carry as u32);
-        Self(sum).trimmed()
-    }
-
-    fn squared(&self) -> Self {
-        let mut product = vec![0_u32; 2 * self.0.len() + 1];
-        for (i, a) in self.0.iter().enumerate() {
-            let mut carry = 0_u64;
-            for (j, b) in self.0.iter().enumerate() {
-                carry += u64::from(product[i + j]) + u64::from(*a) * u64::from(*b);
-                product[i + j] = carry as u32;
-                carry >>= 32;
-            }
-            product[i + self.0.len()] = carry as u32;
-        }
-        Self(product).trimmed()
-    }
-
-    fn order(&self, other: &Self) -> Ordering {
-        let by_length = self.0.len().cmp(&other.0.len());
-        by_length.then_with(|| self.0.iter().rev().cmp(other.0.iter().rev()))
-    }
-}
-
-/// A finite magnitude as m × 2^(e − 1074).
-fn parts(x: f64) -> (u64, u32) {
-    let bits = x.abs().to_bits();
-    let fraction = bits & 0xf_ffff_ffff_ffff;
-    match (bits >> 52) as u32 {
-        0 => (fraction, 0),
-        field => (fraction + 0x10_0000_0000_0000, field - 1),
-    }
-}
 
 /// How x² + y² compares with the square of the number halfway from the finite
 /// magnitude of these bits to the next one up (past the largest: to where the

@@ -3,9 +3,9 @@
 use std::collections::{BTreeMap, BTreeSet};
 
 use oracle::answer::answer_line;
-use oracle::outlines::{Question, Shape, Tally, KINDS};
+use oracle::outlines::{turn_number, Question, Shape, Tally, KINDS};
 use oracle::regions::Given;
-use oracle::{stored, wrong};
+use oracle::{stored, turns, wrong};
 
 const S: &[[f64; 2]] = &[[0.0, 0.0], [4.0, 0.0], [4.0, 4.0], [0.0, 4.0]];
 
@@ -212,11 +212,14 @@ fn the_stored_list_reaches_every_number() {
         &[0, 2],
         &[0, 2, 14],
         &[0, 4, 5, 13, 14, 15, 16, 17, 18, 21],
-        &[0, 1, 2, 3, 4, 5, 6, 7, 8, 9, 11, 12],
+        &[0, 1, 2, 3, 4, 5, 6, 7, 8, 9, 10, 11, 12],
         &[
             0, 1, 2, 3, 4, 5, 6, 7, 8, 9, 10, 11, 12, 13, 14, 15, 16, 17, 18, 19,
         ],
         &[0, 2, 21],
+        &[0, 1, 2, 3],
+        &[0, 1],
+        &[0, 1],
     ];
     for (kind, numbers) in tally.numbers.iter().enumerate() {
         for (number, count) in numbers.iter().enumerate() {
@@ -451,6 +454,81 @@ fn other_cases(question: &Question, answer: &[u64]) -> Vec<(&'static str, bool)>
         Question::Region(_) | Question::RegionInset(..) | Question::RegionPoint(..) => {
             region_cases(question, answer)
         }
+        Question::Turn(_) | Question::Meet(_) | Question::Fold(_) => point_cases(question, answer),
+    }
+}
+
+/// The turn as it is rounded: 0, 1, 2 or 3 as the answer has it.
+fn rounded_turn([a, b, c]: [[f64; 2]; 3]) -> u64 {
+    turn_number(turns::rounded(a, b, c))
+}
+
+/// What a question about points and its answer are an instance of.
+fn point_cases(question: &Question, answer: &[u64]) -> Vec<(&'static str, bool)> {
+    let fields = question.fields();
+    let numbers: Vec<f64> = fields.iter().map(|bits| f64::from_bits(*bits)).collect();
+    let finite = numbers.iter().all(|x| x.is_finite());
+    let tiny = numbers.iter().all(|x| x.is_subnormal() || *x == 0.0);
+    let huge = numbers.iter().any(|x| x.is_finite() && x.abs() > 1e307);
+    let told = answer[0];
+    match question {
+        Question::Turn(points) => {
+            let rounded = rounded_turn(*points);
+            let [a, b, c] = *points;
+            let same = a == b || b == c || c == a;
+            vec![
+                ("a turn, straight", told == 0 && !same),
+                ("a turn, one point twice", told == 0 && same),
+                ("straight, rounded to a side", told == 0 && rounded > 0),
+                ("left, rounded to straight", told == 1 && rounded == 0),
+                ("right, rounded to straight", told == 2 && rounded == 0),
+                ("left, rounded to right", told == 1 && rounded == 2),
+                ("right, rounded to left", told == 2 && rounded == 1),
+                ("no number where it is rounded", told < 3 && rounded == 3),
+                ("a turn, tiny", tiny && [1, 2].contains(&told)),
+                ("a turn, tiny and straight", tiny && told == 0 && !same),
+                ("a turn, huge", huge && [1, 2].contains(&told)),
+                ("a turn, NaN", numbers.iter().any(|x| x.is_nan())),
+                ("a turn, infinite", numbers.iter().any(|x| x.is_infinite())),
+                ("a turn, -0", fields.contains(&(1 << 63))),
+            ]
+        }
+        Question::Meet([p, q]) => {
+            let [p1, p2] = *p;
+            let [q1, q2] = *q;
+            let turns = [[q1, q2, p1], [q1, q2, p2], [p1, p2, q1], [p1, p2, q2]];
+            let exact = turns.map(|three| Question::Turn(three).answer()[0]);
+            let sides = turns.map(rounded_turn);
+            let point = p1 == p2 || q1 == q2;
+            let flat = exact == [0; 4] && finite;
+            vec![
+                ("crossed", told == 1 && !exact.contains(&0)),
+                ("touching", told == 1 && exact.contains(&0) && !flat),
+                ("on one line, meeting", told == 1 && flat && !point),
+                ("on one line, apart", told == 0 && flat && !point),
+                ("a point on a segment", told == 1 && point && p != q),
+                ("a point apart", told == 0 && point && finite),
+                ("meeting, other turns rounded", told == 1 && exact != sides),
+                ("apart, other turns rounded", told == 0 && exact != sides),
+                ("segments, not finite", !finite),
+                ("segments, huge", huge && told == 1),
+                ("segments, tiny", tiny && told == 1),
+            ]
+        }
+        Question::Fold(points) => {
+            let exact = Question::Turn(*points).answer()[0];
+            let rounded = rounded_turn(*points);
+            vec![
+                ("folded", told == 1),
+                ("straight ahead", told == 0 && exact == 0),
+                ("folded, rounded to a side", told == 1 && rounded > 0),
+                ("aside, rounded to straight", exact > 0 && rounded == 0),
+                ("a fold, not finite", !finite),
+                ("a fold, huge", huge),
+                ("a fold, tiny", tiny),
+            ]
+        }
+        _ => vec![],
     }
 }
 
@@ -688,12 +766,27 @@ fn wrong_answers_are_wrong() {
     }
 }
 
+/// The chosen point of a region lies on the hole's first edge, to the last bit,
+/// and is told outside, at distance 0.
+#[test]
+fn a_point_on_a_hole_told_outside() {
+    let asked = stored::chosen_questions();
+    let Some(Question::RegionPoint(given, point, _)) = asked.last() else {
+        panic!("a point of a region");
+    };
+    let vertex = |k: usize| [given.numbers[2 * k], given.numbers[2 * k + 1]];
+    let (from, to) = (vertex(3), vertex(4));
+    assert_eq!(turns::exact(from, to, *point), 0.0);
+    assert!((0..2).all(|axis| from[axis] < point[axis] && point[axis] < to[axis]));
+    assert_eq!(asked[asked.len() - 1].answer()[..4], [0, 0, 2, 0]);
+}
+
 /// chosen.jobs: what it is, then words about each place with its jobs.
 #[test]
 fn the_chosen_jobs_are_all_there() {
     let blocks = include_str!("../chosen.jobs").split("\n\n").skip(1);
     let blocks: Vec<(&str, &str)> = blocks.filter_map(|block| block.split_once('\n')).collect();
-    assert_eq!(blocks.len(), 21);
+    assert_eq!(blocks.len(), 28);
     for (words, jobs) in blocks {
         assert!(words.starts_with("# ") && !jobs.contains('#'), "{words}");
         let jobs: BTreeSet<&str> = jobs.lines().collect();

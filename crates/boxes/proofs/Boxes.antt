@@ -1,12 +1,11 @@
 -- Segments whose boxes are apart: no end of the one lies in the other's box, so they meet only where they cross. Assumes nothing.
 use mathlib.Core.Path.{_≡_, refl, sym, _∙_}
-use Rattle.segment.proofs.Turns.{left-is, right-is}
-use mathlib.Core.Bool.{Bool, Bool·beq, true, false, cond, not, _&&_, _||_, true≢false, false≢true}
+use mathlib.Core.Bool.{Bool, true, false, cond, _&&_, _||_, false≢true}
 use lib.Ieee.{Float, lt, le, eq}
-use Rattle.math.specs.Number.{fmin, fmax, zero-float}
+use Rattle.math.specs.Number.{fmin, fmax}
 use Rattle.plane.specs.declared.PlanarPoint.{PlanarPoint}
-use Rattle.segment.specs.Segments.{Turn, Left, Right, Straight, Unknown, is-left, is-right, is-straight, side, turn, orient, apart, within-box, touches, meet-by, segments-meet}
-use Rattle.boxes.specs.Quick.{greater, lesser, low, high, beside, one-side, clear}
+use Rattle.segment.specs.Segments.{within-box}
+use Rattle.boxes.specs.Quick.{greater, lesser, low, high, beside}
 use Rattle.math.proofs.Order.{past, short, under-not-over, one-way, nan-under, under-nan}
 
 -- ---- numbers that lie apart
@@ -118,11 +117,11 @@ module _ (a b p : PlanarPoint) where
   north-of e = no-4 (le (fmin (a .east) (b .east)) (p .east)) (le (p .east) (fmax (a .east) (b .east))) (le (fmin (a .north) (b .north)) (p .north)) (le (p .north) (fmax (a .north) (b .north))) e
 
 -- no end of the one segment lies in the other's box
-record Outside (a1 a2 b1 b2 : PlanarPoint) : Type 0 where
-  first : within-box b1 b2 a1 ≡ false
-  second : within-box b1 b2 a2 ≡ false
-  third : within-box a1 a2 b1 ≡ false
-  fourth : within-box a1 a2 b2 ≡ false
+pub record Outside (a1 a2 b1 b2 : PlanarPoint) : Type 0 where
+  pub first : within-box b1 b2 a1 ≡ false
+  pub second : within-box b1 b2 a2 ≡ false
+  pub third : within-box a1 a2 b1 ≡ false
+  pub fourth : within-box a1 a2 b2 ≡ false
 
 module _ (a1 a2 b1 b2 : PlanarPoint) where
   west : Below (b1 .east) (b2 .east) (a1 .east) (a2 .east) → Outside a1 a2 b1 b2
@@ -137,7 +136,7 @@ module _ (a1 a2 b1 b2 : PlanarPoint) where
   north : Below (a1 .north) (a2 .north) (b1 .north) (b2 .north) → Outside a1 a2 b1 b2
   north o = record { first = south-of b1 b2 a1 (o .third); second = south-of b1 b2 a2 (o .fourth); third = north-of a1 a2 b1 (o .first); fourth = north-of a1 a2 b2 (o .second) }
 
-  outside : beside (low a1 a2) (high a1 a2) b1 b2 ≡ true → Outside a1 a2 b1 b2
+  pub outside : beside (low a1 a2) (high a1 a2) b1 b2 ≡ true → Outside a1 a2 b1 b2
   unfolding beside low high
   outside h = go _ _ _ _ refl refl refl refl h
     where
@@ -150,35 +149,6 @@ module _ (a1 a2 b1 b2 : PlanarPoint) where
       go false false true s e f g k h = south (below _ _ _ _ (greater-is _ _ _ (lesser-is _ _ _ g)))
       go false false false true e f g k h = north (below _ _ _ _ (greater-is _ _ _ (lesser-is _ _ _ k)))
       go false false false false e f g k h = absurd (false≢true h)
-
--- ---- two segments that cannot meet
-
-both : (a : Bool) → (a && false) ≡ false
-both true = refl
-both false = refl
-
-no-meeting : (c s1 s2 s3 s4 a w1 w2 w3 w4 : Bool) → a ≡ false → w1 ≡ false → w2 ≡ false → w3 ≡ false → w4 ≡ false →
-    false ≡ ((c && a) || ((s1 && w1) || ((s2 && w2) || ((s3 && w3) || (s4 && w4)))))
-no-meeting c s1 s2 s3 s4 a w1 w2 w3 w4 e e1 e2 e3 e4 = rw (e, e1, e2, e3, e4, both c, both s1, both s2, both s3, both s4) refl
-
-parts : (p q : Bool) → (not p && q) ≡ true → (p ≡ false) × (q ≡ true)
-parts true q h = absurd (false≢true h)
-parts false q h = (refl, h)
-
-module _ (a1 a2 b1 b2 : PlanarPoint) where
-  plain : apart (turn a1 a2 b1) (turn a1 a2 b2) ≡ false → Outside a1 a2 b1 b2 → false ≡ segments-meet a1 a2 b1 b2
-  unfolding segments-meet meet-by touches
-  plain e o =
-      no-meeting (apart (turn b1 b2 a1) (turn b1 b2 a2)) (is-straight (turn b1 b2 a1)) (is-straight (turn b1 b2 a2)) (is-straight (turn a1 a2 b1)) (is-straight (turn a1 a2 b2))
-      (apart (turn a1 a2 b1) (turn a1 a2 b2)) (within-box b1 b2 a1) (within-box b1 b2 a2) (within-box a1 a2 b1) (within-box a1 a2 b2) e (o .first) (o .second) (o .third) (o .fourth)
-
-  pub no-meet :
-      (l h : PlanarPoint) (d e : Float) → l ≡ low a1 a2 → h ≡ high a1 a2 → d ≡ orient a1 a2 b1 → e ≡ orient a1 a2 b2 → clear d e l h b1 b2 ≡ true →
-      false ≡ segments-meet a1 a2 b1 b2
-  unfolding clear one-side turn
-  no-meet l h d e p q r s t =
-      let k = parts (apart (side d) (side e)) (beside l h b1 b2) t in
-      plain (rw (← r, ← s) (k .0)) (outside a1 a2 b1 b2 (rw (← p, ← q) (k .1)))
 
 -- ---- what the code asks
 
@@ -200,49 +170,3 @@ module _ (l h p q : PlanarPoint) (x : Float) (e : x ≡ cond (lt (q .east) (p .e
       pub beside-north : lt z (l .north) ≡ false → (w : Float) → w ≡ cond (lt (p .north) (q .north)) (p .north) (q .north) → lt (h .north) w ≡ beside l h p q
       unfolding beside greater lesser
       beside-north t w k = rw (← e, s, ← f, u, ← g, t, ← k) refl
-
-differ : (t u : Turn) → not (Bool·beq (is-left t) (is-left u)) ≡ true → not (not (Bool·beq (is-right t) (is-right u))) ≡ not (apart t u)
-unfolding is-left is-right apart
-differ Left Left h = absurd (false≢true h)
-differ Left Right h = refl
-differ Left Straight h = refl
-differ Left Unknown h = refl
-differ Right Left h = refl
-differ Right Right h = absurd (false≢true h)
-differ Right Straight h = absurd (false≢true h)
-differ Right Unknown h = absurd (false≢true h)
-differ Straight Left h = refl
-differ Straight Right h = absurd (false≢true h)
-differ Straight Straight h = absurd (false≢true h)
-differ Straight Unknown h = absurd (false≢true h)
-differ Unknown Left h = refl
-differ Unknown Right h = absurd (false≢true h)
-differ Unknown Straight h = absurd (false≢true h)
-differ Unknown Unknown h = absurd (false≢true h)
-
-agree : (t u : Turn) → not (Bool·beq (is-left t) (is-left u)) ≡ false → true ≡ not (apart t u)
-unfolding is-left is-right apart
-agree Left Left h = refl
-agree Left Right h = absurd (true≢false h)
-agree Left Straight h = absurd (true≢false h)
-agree Left Unknown h = absurd (true≢false h)
-agree Right Left h = absurd (true≢false h)
-agree Right Right h = refl
-agree Right Straight h = refl
-agree Right Unknown h = refl
-agree Straight Left h = absurd (true≢false h)
-agree Straight Right h = refl
-agree Straight Straight h = refl
-agree Straight Unknown h = refl
-agree Unknown Left h = absurd (true≢false h)
-agree Unknown Right h = refl
-agree Unknown Straight h = refl
-agree Unknown Unknown h = refl
-
-pub sides-differ : (d e : Float) → not (Bool·beq (lt zero-float d) (lt zero-float e)) ≡ true → not (not (Bool·beq (lt d zero-float) (lt e zero-float))) ≡ one-side d e
-unfolding one-side
-sides-differ d e h = rw (right-is d, right-is e) (differ (side d) (side e) (rw (← left-is d, ← left-is e) h))
-
-pub sides-agree : (d e : Float) → not (Bool·beq (lt zero-float d) (lt zero-float e)) ≡ false → true ≡ one-side d e
-unfolding one-side
-sides-agree d e h = agree (side d) (side e) (rw (← left-is d, ← left-is e) h)

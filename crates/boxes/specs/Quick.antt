@@ -1,8 +1,10 @@
--- When two edges that are no neighbours cannot meet: their boxes are apart, and the ends of the one are not on two sides of the other. Assumes nothing.
-use mathlib.Core.Bool.{Bool, cond, not, _&&_, _||_}
+-- Two segments whose boxes are apart do not meet. Assumes nothing.
+use mathlib.Core.Path.{_≡_}
+use mathlib.Core.Bool.{Bool, true, false, cond, _||_}
 use lib.Ieee.{Float, lt}
 use Rattle.plane.specs.declared.PlanarPoint.{PlanarPoint}
-use Rattle.segment.specs.Segments.{side, apart}
+use Rattle.turn.specs.Turns.{Doubles}
+use Rattle.segment.specs.Segments.{segments-meet}
 
 -- the greater and the less of two numbers; the second where one is NaN
 unfoldable pub greater : Float → Float → Float
@@ -24,14 +26,20 @@ beside l h p q =
     lt (greater (p .east) (q .east)) (l .east) || (lt (h .east) (lesser (p .east) (q .east)) ||
     (lt (greater (p .north) (q .north)) (l .north) || lt (h .north) (lesser (p .north) (q .north))))
 
--- two cross products do not tell two sides
-unfoldable pub one-side : Float → Float → Bool
-one-side d e = not (apart (side d) (side e))
+-- THE STATEMENT: segments whose boxes lie apart do not meet, for all doubles, infinite and NaN too
+abbrev pub ApartNoMeet : Type 0
+ApartNoMeet =
+    (p1 p2 q1 q2 : PlanarPoint) → Doubles p1 → Doubles p2 → Doubles q1 → Doubles q2 →
+    beside (low p1 p2) (high p1 p2) q1 q2 ≡ true → segments-meet p1 p2 q1 q2 ≡ false
 
-unfoldable pub clear : Float → Float → PlanarPoint → PlanarPoint → PlanarPoint → PlanarPoint → Bool
-clear d e l h p q = one-side d e && beside l h p q
+-- the same of a test r, which says that the segment from p to q lies beside the box from l to h: then a segment that has this
+-- box does not meet it
+abbrev pub PassedOver : Bool → PlanarPoint → PlanarPoint → PlanarPoint → PlanarPoint → Type 0
+PassedOver r l h p q =
+    r ≡ true → (a1 a2 : PlanarPoint) → Doubles a1 → Doubles a2 → l ≡ low a1 a2 → h ≡ high a1 a2 →
+    segments-meet a1 a2 p q ≡ false
 
 -- opens every definition above, for a proof that computes with all of them
 unfoldable pub open-quick : Unit {0}
-unfolding greater lesser low high beside one-side clear
+unfolding greater lesser low high beside
 open-quick = tt

@@ -1,11 +1,14 @@
 // Segments whose boxes are apart: a test that two segments do not meet.
 ghost use mathlib.Core.Path.{_≡_};
+ghost use Rattle.turn.specs.Turns.{Doubles};
 ghost use Rattle.boxes.specs.Quick;
 use plane::PlanarPoint;
 
 // The corners of the box of the segment from a to b.
 pub fn low(a: PlanarPoint, b: PlanarPoint) -> PlanarPoint
     ensures { λ r. ⌜ r ≡ Quick.low a b ⌝ }
+    ensures { λ r. ⌜ Doubles a ⌝ }
+    ensures { λ r. ⌜ Doubles b ⌝ }
 {
     PlanarPoint {
         east: math::choose(a.east < b.east, a.east, b.east),
@@ -38,24 +41,10 @@ pub(crate) fn beside(l: PlanarPoint, h: PlanarPoint, p: PlanarPoint, q: PlanarPo
     h.north < math::choose(p.north < q.north, p.north, q.north)
 }
 
-// Whether two cross products do not tell two sides.
-pub(crate) fn one_side(d: f64, e: f64) -> bool
-    ensures { λ r. ⌜ r ≡ Quick.one-side d e ⌝ }
+// Whether the segment from p to q is passed over: it lies beside the box from l to h, so a segment that has this box does not meet it.
+pub fn passed_over(l: PlanarPoint, h: PlanarPoint, p: PlanarPoint, q: PlanarPoint) -> bool
+    ensures { λ r. ⌜ r ≡ Quick.beside l h p q ⌝ }
+    ensures { λ r. ⌜ Quick.PassedOver r l h p q ⌝ }
 {
-    if (0.0 < d) ^ (0.0 < e) {
-        !((d < 0.0) ^ (e < 0.0))
-    } else {
-        true
-    }
-}
-
-// Whether two segments cannot meet: by the cross products d and e of the ends p and q from the first, and by its box from l to h.
-pub fn clear(d: f64, e: f64, l: PlanarPoint, h: PlanarPoint, p: PlanarPoint, q: PlanarPoint) -> bool
-    ensures { λ r. ⌜ r ≡ Quick.clear d e l h p q ⌝ }
-{
-    if one_side(d, e) {
-        beside(l, h, p, q)
-    } else {
-        false
-    }
+    beside(l, h, p, q)
 }

@@ -1,1 +1,3 @@
 pub mod Skipped
+pub mod Found
+pub mod Exact

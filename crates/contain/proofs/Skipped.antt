@@ -12,7 +12,9 @@ use Rattle.plane.specs.declared.Containment.{Containment}
 use Rattle.plane.specs.declared.Containment.the-variants.{Inside, OnBoundary, Outside}
 use Rattle.math.proofs.Order.{under-not-over, one-way}
 use Rattle.math.specs.Number.{fmin, fmax}
-use Rattle.segment.specs.Segments.{Turn, turn, touches, within-box, is-straight}
+use Rattle.turn.specs.declared.Turn.{Turn}
+use Rattle.turn.specs.Turns.{turn, is-straight}
+use Rattle.segment.specs.Segments.{touches, within-box}
 use Rattle.ring.specs.Ring.{vertex-at, edge-end, following}
 use Rattle.contain.specs.Contains.{beside, passes, flipped, unless-on, contains-edge, contains-step, ring-contains}
 use Rattle.loops.specs.Loop.{rounds}

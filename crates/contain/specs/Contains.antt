@@ -1,4 +1,5 @@
--- polygon.rs, `ring_contains`: where a point lies. Assumes nothing.
+-- polygon.rs, `ring_contains`: where a point lies. On the boundary by the exact turn (R-9); the ray is rounded, as in the Rust.
+-- Assumes nothing.
 use Prim.Native.Nat.{ℕ}
 use mathlib.Core.Bool.{Bool, cond, _&&_, _||_}
 use mathlib.Core.List.{List}
@@ -8,7 +9,8 @@ use Rattle.plane.specs.declared.Containment.the-variants.{Inside, OnBoundary, O
 use Rattle.plane.specs.declared.PlanarPoint.{PlanarPoint}
 use Rattle.math.specs.Number
 use Rattle.math.specs.Number.{add, mul, div}
-use Rattle.segment.specs.Segments.{turn, touches}
+use Rattle.turn.specs.Turns.{turn}
+use Rattle.segment.specs.Segments.{touches}
 use Rattle.ring.specs.Ring.{vertex-at, edge-end}
 use Rattle.loops.specs.Loop.{rounds}
 

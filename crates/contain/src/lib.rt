@@ -1,7 +1,6 @@
 // Where a point lies: by the crossings of a ray to the east, the boundary asked first.
 ghost use mathlib.Core.Path.{_≡_};
 ghost use mathlib.Core.Bool.{cond};
-ghost use Rattle.segment.specs.Segments;
 ghost use Rattle.contain.specs.Contains;
 use plane::Containment;
 use plane::PlanarPoint;
@@ -21,13 +20,6 @@ pub(crate) fn passes(a: PlanarPoint, b: PlanarPoint, p: PlanarPoint) -> bool
     ((p.north < a.north) != (p.north < b.north)) & (p.east < east)
 }
 
-// Whether p lies on the edge ab.
-pub(crate) fn on_edge(p: PlanarPoint, a: PlanarPoint, b: PlanarPoint) -> bool
-    ensures { λ r. ⌜ r ≡ Segments.touches (Segments.turn a b p) a b p ⌝ }
-{
-    segment::touches(segment::orient(a, b, p), a, b, p)
-}
-
 // Whether a point of the north p is south of both ends of an edge, or north of both: a and b are their norths.
 pub(crate) fn beside(a: f64, b: f64, p: f64) -> bool
     ensures { λ r. ⌜ r ≡ Contains.beside a b p ⌝ }
@@ -35,7 +27,8 @@ pub(crate) fn beside(a: f64, b: f64, p: f64) -> bool
     ((p < a) & (p < b)) | ((a < p) & (b < p))
 }
 
-// An edge that the point is beside is left out. `inside`: an odd number of edges was passed so far. The point's numbers come in registers: a point in memory that was just stored is slow to read.
+// An edge that the point is beside is left out. `inside`: an odd number of edges was passed so far. The point's numbers come in registers:
+// a point in memory that was just stored is slow to read.
 pub fn place_of(ps: &[f64], n: usize, east: f64, north: f64) -> Containment
     ensures { λ r. ⌜ r ≡ Contains.ring-contains (now (ps .entry)) n (record { east = east; north = north }) ⌝ }
 {
@@ -52,7 +45,7 @@ pub fn place_of(ps: &[f64], n: usize, east: f64, north: f64) -> Containment
         a = b;
         k += 1;
         if !beside(start.north, b.north, north) {
-            if on_edge(p, start, b) {
+            if segment::on_segment(start, b, p) {
                 return Containment::OnBoundary;
             }
             inside = inside != passes(start, b, p);

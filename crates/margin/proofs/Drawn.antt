@@ -124,14 +124,14 @@ new-outline-margin ps n d pd fd g h l =
     }
 
 -- an accepted outline is what 4 to 9 make of its numbers
-record Accepted (ps : List Float) (a : NewOutline) : Type 0 where
-  is : granted (a .refusal) ≡ true → a ≡ new-outline ps (length ps / 2)
+pub record Accepted (ps : List Float) (a : NewOutline) : Type 0 where
+  pub is : granted (a .refusal) ≡ true → a ≡ new-outline ps (length ps / 2)
 
 refused-not : (ps : List Float) (r : Refusal) → granted r ≡ false → Accepted ps (outline-refused r)
 unfolding outline-refused
 refused-not ps r h = record { is = λ q. absurd (false≢true (sym h ∙ q)) }
 
-outline-is : (ps : List Float) → Accepted ps (outline ps)
+pub outline-is : (ps : List Float) → Accepted ps (outline ps)
 unfolding outline outline-if granted number values
 outline-is ps =
     both (Accepted ps) (eqb (length ps % 2) 0)

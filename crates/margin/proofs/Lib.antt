@@ -13,3 +13,5 @@ pub mod Drawn
 pub mod DrawnRings
 pub mod Jobs
 pub mod Given
+pub mod RingsApart
+pub mod Meeting

@@ -28,7 +28,7 @@ module _ (r : Region) (d : Float) (g : granted ((region-inset r d) .refusal) ≡
   unfolding region-plain
   refused-not u h e = false≢true (sym h ∙ ap (λ (a : RegionOffset). granted (a .refusal)) (sym e) ∙ g)
 
-  source-proper : proper-region r ≡ true
+  pub source-proper : proper-region r ≡ true
   unfolding granted number values
   source-proper = passed (proper-region r) (λ h. refused-not Shape refl (inset-before r d .improper h))
 

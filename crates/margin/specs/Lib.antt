@@ -2,3 +2,4 @@ pub mod Margin
 pub mod Lent
 pub mod Drawn
 pub mod Jobs
+pub mod Meeting

@@ -13,8 +13,8 @@ use lib.Ieee.Bits.{cond-no}
 use lib.Ieee.Exact.{HasValue, odd-sign}
 use lib.Ieee.Order.{drop, kept}
 use Rattle.math.specs.Number.{raised, lowered, clamp, div}
-use Rattle.margins.proofs.Signed.{Signed, _⊖_}
-use Rattle.margins.proofs.Operations.{unit, signed, Is, divisor-some, divisor-test}
+use Rattle.math.proofs.Signed.{Signed, _⊖_}
+use Rattle.math.proofs.Operations.{unit, signed, Is, divisor-some, divisor-test}
 use Rattle.margins.proofs.Clamp.{clamp-fraction, zero-is, one-is}
 
 -- z is a fraction of t units

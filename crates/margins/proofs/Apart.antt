@@ -2,14 +2,12 @@
 -- to p, and x along the edge. Assumes nothing.
 use mathlib.Core.Path.{_≡_, sym, ap, _∙_}
 use Prim.Native.Nat.{ℕ, _+_, _-_, _*_}
-use native.Mathlib.Nat.{mul-add, add-mul, mul-assoc, mul-comm, mul-left-comm, add-assoc, add-comm, add-left-comm}
 use native.Mathlib.Omega.{arith}
 use Rattle.margins.specs.Far.{sq}
-use Rattle.margins.proofs.Naturals.{Order, more, less, order}
-use Rattle.margins.proofs.Signed.{Signed, _⊕_, _⊗_, square, past, Vector, inner, norm}
+use Rattle.math.proofs.Naturals.{Order, more, less, order}
+use Rattle.math.proofs.Signed.{Signed, _⊕_, _⊗_, square, past, Vector, inner, norm}
+use Rattle.segment.proofs.Meet.{ring}
 use Rattle.margins.proofs.Foot.{Square}
-
-pub ruleset ring = (mul-add, add-mul, mul-assoc, mul-comm, mul-left-comm, add-assoc, add-comm, add-left-comm)
 
 -- (a - b)² = a² + b² - 2 a b
 sq-is : (a b : ℕ) → sq a b + 2 * (a * b) ≡ a * a + b * b

@@ -10,8 +10,8 @@ use lib.Ieee.{Float, nan, inf, fin, up, down, lt, ofBits}
 use lib.Ieee.Fits.{down-pos}
 use lib.Ieee.Exact.{HasValue}
 use Rattle.math.specs.Number.{zero-float, one, raised, lowered, clamp}
-use Rattle.margins.proofs.Signed.{Signed, _⊖_}
-use Rattle.margins.proofs.Operations.{unit, signed, Is, upward, by-sign}
+use Rattle.math.proofs.Signed.{Signed, _⊖_}
+use Rattle.math.proofs.Operations.{unit, signed, Is, upward, by-sign}
 
 -- the constants, as the logic computes with them
 abbrev zero-number : Float

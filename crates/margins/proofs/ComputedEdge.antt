@@ -11,8 +11,8 @@ use Rattle.math.specs.Number.{clamp, div}
 use Rattle.plane.specs.declared.PlanarPoint.{PlanarPoint}
 use Rattle.plane.specs.Plane.{sub, dot}
 use Rattle.segment.specs.Segments.{along}
-use Rattle.margins.proofs.Signed.{Signed, _⊖_, size, Close, Small, small-more, small-add, small-product, Vector, from-to, inner, norm}
-use Rattle.margins.proofs.Operations.{unit, Is}
+use Rattle.math.proofs.Signed.{Signed, _⊖_, size, Close, Small, small-more, small-add, small-product, Vector, from-to, inner, norm}
+use Rattle.math.proofs.Operations.{unit, Is}
 use Rattle.margins.proofs.Scale.{Scale, coarse-enough}
 use Rattle.margins.proofs.DotProduct.{At, Parts, Apart, differences, coarser, Term, dot-term}
 use Rattle.margins.proofs.FootVector.{Placed, axis, axis-start}

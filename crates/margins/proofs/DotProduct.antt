@@ -8,10 +8,10 @@ use Rattle.math.specs.Number
 use Rattle.math.specs.Number.{add, mul}
 use Rattle.plane.specs.declared.PlanarPoint.{PlanarPoint}
 use Rattle.plane.specs.Plane.{sub, dot}
-use Rattle.margins.proofs.Signed.{Signed, _⊕_, _⊟_, _⊗_, _·_, total, Vector, from-to, inner}
-use Rattle.margins.proofs.Signed.{Close, close-trans, close-add, close-product, close-scale, close-factor, close-one}
-use Rattle.margins.proofs.Signed.{Small, small-close, small-more, small-product}
-use Rattle.margins.proofs.Operations.{unit, limit, Is, total-small, total-scaled, Result, add-near, sub-near, mul-near}
+use Rattle.math.proofs.Signed.{Signed, _⊕_, _⊟_, _⊗_, _·_, total, Vector, from-to, inner}
+use Rattle.math.proofs.Signed.{Close, close-trans, close-add, close-product, close-scale, close-factor, close-one}
+use Rattle.math.proofs.Signed.{Small, small-close, small-more, small-product}
+use Rattle.math.proofs.Operations.{unit, limit, Is, total-small, total-scaled, Result, add-near, sub-near, mul-near}
 use Rattle.margins.proofs.Scale.{Scale, product-fine}
 
 -- ---- a rounded sum or difference

@@ -8,12 +8,13 @@ use native.Mathlib.Nat.{le-trans, le-of-eq, le-of-lt, le-of-mul-le-mul-left, mul
 use native.Mathlib.Omega.{arith}
 use Rattle.hypotenuse.proofs.Order.{le-or-lt}
 use Rattle.plane.specs.declared.PlanarPoint.{PlanarPoint}
-use Rattle.margins.proofs.Naturals.{root-le, square-product, square-sum, Order, more, less, order}
-use Rattle.margins.proofs.Signed.{Signed, _·_, negated, total, size, square, past, Close, Small, small-negated, small-scale, Vector, inner, norm}
+use Rattle.math.proofs.Naturals.{root-le, square-product, square-sum, Order, more, less, order}
+use Rattle.math.proofs.Signed.{Signed, _·_, negated, total, size, square, past, Close, Small, small-negated, small-scale, Vector, inner, norm}
 use Rattle.margins.proofs.Foot.{Foot, near-optimal}
 use Rattle.margins.proofs.DotProduct.{At}
 use Rattle.margins.proofs.FootVector.{Along, part-length}
-use Rattle.margins.proofs.Apart.{ring, apart, apart-square}
+use Rattle.segment.proofs.Meet.{ring}
+use Rattle.margins.proofs.Apart.{apart, apart-square}
 use Rattle.margins.proofs.Lengths.{lengthened, nearly, nearer, vector}
 use Rattle.margins.proofs.TooShort.{Gap, longest, too-short}
 

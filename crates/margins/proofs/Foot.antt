@@ -6,8 +6,8 @@ use Prim.Native.Nat.{ℕ, _+_, _*_, _≤_}
 use native.Mathlib.Nat.{le-trans, mul-le-mul-left, mul-le-mul-right, le-add-right, mul-comm}
 use native.Mathlib.Omega.{arith}
 use Rattle.hypotenuse.proofs.Poly.{poly}
-use Rattle.margins.proofs.Naturals.{Order, more, less, order, two-products}
-use Rattle.margins.proofs.Signed.{Signed}
+use Rattle.math.proofs.Naturals.{Order, more, less, order, two-products}
+use Rattle.math.proofs.Signed.{Signed}
 
 -- what is known of a foot t / u: its error is at most r, on one side only where the fraction was held at 0 or at 1
 pub data Foot (t u l : ℕ) (d : Signed) (r : ℕ) : Type 0 where

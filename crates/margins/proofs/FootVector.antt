@@ -7,9 +7,9 @@ use native.Mathlib.Omega.{arith}
 use lib.Pow.{pow-pos}
 use lib.Ieee.{Float}
 use Rattle.math.specs.Number.{add, sub, mul}
-use Rattle.margins.proofs.Signed.{Signed, _⊖_, _⊕_, _⊟_, _⊗_, _·_, negated, total, size, past, Close, close-trans, close-scale}
-use Rattle.margins.proofs.Signed.{Small, small-close, small-more, small-add, small-sub, small-scale, small-cancel}
-use Rattle.margins.proofs.Operations.{unit, limit, Is, one-part, total-small, Result, mul-near}
+use Rattle.math.proofs.Signed.{Signed, _⊖_, _⊕_, _⊟_, _⊗_, _·_, negated, total, size, past, Close, close-trans, close-scale}
+use Rattle.math.proofs.Signed.{Small, small-close, small-more, small-add, small-sub, small-scale, small-cancel}
+use Rattle.math.proofs.Operations.{unit, limit, Is, one-part, total-small, Result, mul-near}
 use Rattle.margins.proofs.Scale.{Range, sixty, coarse-enough, below-limit}
 use Rattle.margins.proofs.DotProduct.{Part, difference, summed}
 

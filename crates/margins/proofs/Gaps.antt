@@ -17,8 +17,8 @@ use Rattle.plane.specs.Points.{length-of}
 use Rattle.hypotenuse.specs.Hypot.{hypot}
 use Rattle.hypotenuse.specs.Nearest.{HasUnits, Infinite, NearestRoot, edge, Rounds, past, near, IsHypot, of-finite, of-infinite, of-nan}
 use Rattle.hypotenuse.proofs.Correct.{hypot-is-nearest}
-use Rattle.margins.proofs.Signed.{Signed, total, Vector}
-use Rattle.margins.proofs.Operations.{unit, limit, Is, total-is}
+use Rattle.math.proofs.Signed.{Signed, total, Vector}
+use Rattle.math.proofs.Operations.{unit, limit, Is, total-is}
 use Rattle.margins.proofs.DotProduct.{At}
 use Rattle.margins.proofs.TooShort.{Rooted, Margin, Gap}
 use Rattle.margins.proofs.ExactEdge.{squares}

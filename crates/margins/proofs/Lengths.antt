@@ -5,7 +5,7 @@ use Prim.Native.Nat.{ℕ, _+_, _*_, _≤_, _<_}
 use native.Mathlib.Nat.{le-refl, le-trans, le-of-eq, add-le-add, mul-le-mul, mul-le-mul-left, mul-le-mul-right, le-of-mul-le-mul-left, mul-pos, le-add-right, mul-add}
 use native.Mathlib.Omega.{arith}
 use Rattle.hypotenuse.proofs.Poly.{poly}
-use Rattle.margins.proofs.Naturals.{root-le, square-product, square-sum}
+use Rattle.math.proofs.Naturals.{root-le, square-product, square-sum}
 
 -- a vector whose parts are each at most e longer than those of one of length y at most is at most y + 2 e long
 pub lengthened : (a b x z y e : ℕ) → a * a + b * b ≤ y * y → x ≤ a + e → z ≤ b + e → x * x + z * z ≤ (y + 2 * e) * (y + 2 * e)

@@ -1,5 +1,5 @@
 -- The proof in short. A unit is 2 ^ -1074; R is 1 + distance + largest coordinate, and H the larger side of the edge, in units.
---  1. A float operation is off by half a place of its result, or half a unit: `Rounding`, `Operations`.
+--  1. A float operation is off by half a place of its result, or half a unit: `Nearby`, `Operations` of math/proofs.
 --  2. So the computed dot products of the edge and of the vector to p are off by R H / 2 ^ 46: `DotProduct`.
 --  3. Their computed quotient, held between 0 and 1, satisfies the projection's equation up to R H / 2 ^ 44: `Clamp`, `Projection`,
 --     `Quotient`. Where the edge is tiny against R, it is any fraction: `AnyFraction`.
@@ -11,10 +11,6 @@
 --  8. Such a point also bounds p, so every number stays finite, and the edge is long or tiny: `ComputedEdge`, `OneEdge`, `Points`.
 -- `Units` and `Nearest` prove the other statements of specs/Far.antt: units are what the bits say, and no point of the edge is missed.
 -- Assumes nothing.
-pub mod Naturals
-pub mod Signed
-pub mod Rounding
-pub mod Operations
 pub mod Scale
 pub mod DotProduct
 pub mod FootVector

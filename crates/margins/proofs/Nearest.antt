@@ -6,7 +6,7 @@ use native.Mathlib.Nat.{le-trans, le-of-eq, le-of-mul-le-mul-left, eq-zero-or-po
 use native.Mathlib.Omega.{arith}
 use Rattle.hypotenuse.proofs.Order.{le-or-lt}
 use Rattle.margins.specs.Far.{sq, axis-apart, squared-apart, NearestIsFraction}
-use Rattle.margins.proofs.Signed.{Signed, _⊗_, square, Vector, from-to, inner, norm}
+use Rattle.math.proofs.Signed.{Signed, _⊗_, square, Vector, from-to, inner, norm}
 use Rattle.margins.proofs.Foot.{Foot, between, at-start, at-end, near-optimal}
 use Rattle.margins.proofs.Apart.{apart, apart-square}
 use Rattle.margins.proofs.Values.{units-of}

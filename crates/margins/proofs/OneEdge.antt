@@ -12,9 +12,9 @@ use Rattle.plane.specs.declared.PlanarPoint.{PlanarPoint}
 use Rattle.plane.specs.Plane.{sub, dot}
 use Rattle.plane.specs.Points.{length-of}
 use Rattle.hypotenuse.proofs.Order.{le-or-lt}
-use Rattle.margins.proofs.Naturals.{larger}
-use Rattle.margins.proofs.Signed.{Signed, _⊟_, total, size, square, past, Small, small-more, Vector, from-to, norm}
-use Rattle.margins.proofs.Operations.{unit, Is, total-small}
+use Rattle.math.proofs.Naturals.{larger}
+use Rattle.math.proofs.Signed.{Signed, _⊟_, total, size, square, past, Small, small-more, Vector, from-to, norm}
+use Rattle.math.proofs.Operations.{unit, Is, total-small}
 use Rattle.margins.proofs.Scale.{Range, Scale, coarse-enough, below-limit}
 use Rattle.margins.proofs.DotProduct.{At}
 use Rattle.margins.proofs.Apart.{apart}

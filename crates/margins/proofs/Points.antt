@@ -15,8 +15,8 @@ use Rattle.plane.specs.Points.{length-of}
 use Rattle.segment.specs.Segments.{foot, closest-on-segment}
 use Rattle.hypotenuse.proofs.Order.{le-or-lt}
 use Rattle.margins.specs.Far.{magnitude, axis-apart, squared-apart, margin-of, Far}
-use Rattle.margins.proofs.Signed.{Signed}
-use Rattle.margins.proofs.Operations.{unit, limit, Is}
+use Rattle.math.proofs.Signed.{Signed}
+use Rattle.math.proofs.Operations.{unit, limit, Is}
 use Rattle.margins.proofs.DotProduct.{At}
 use Rattle.margins.proofs.Values.{units-of, of-double}
 use Rattle.margins.proofs.Gaps.{Asked}

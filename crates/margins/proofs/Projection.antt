@@ -4,7 +4,7 @@ use mathlib.Core.Path.{_≡_, refl, sym, subst}
 use Prim.Native.Nat.{ℕ, _+_, _*_, _^_, _≤_}
 use native.Mathlib.Nat.{le-refl, mul-le-mul-left, mul-le-mul-right}
 use native.Mathlib.Omega.{arith}
-use Rattle.margins.proofs.Signed.{Signed, _⊖_, _·_, Close}
+use Rattle.math.proofs.Signed.{Signed, _⊖_, _·_, Close}
 use Rattle.margins.proofs.Foot.{Foot, between, at-start, at-end}
 use Rattle.margins.proofs.Clamp.{Held, inside, below, above}
 

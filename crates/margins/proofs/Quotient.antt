@@ -11,8 +11,8 @@ use lib.Pow.{pow-pos}
 use lib.Ieee.{Float}
 use lib.Ieee.Exact.{HasValue}
 use Rattle.math.specs.Number.{clamp, div}
-use Rattle.margins.proofs.Signed.{Signed, _⊖_, _·_, total, Close, close-trans, Small, small-close, small-more}
-use Rattle.margins.proofs.Operations.{unit, limit, signed, Is, total-scaled, Result, div-near}
+use Rattle.math.proofs.Signed.{Signed, _⊖_, _·_, total, Close, close-trans, Small, small-close, small-more}
+use Rattle.math.proofs.Operations.{unit, limit, signed, Is, total-scaled, Result, div-near}
 use Rattle.margins.proofs.DotProduct.{Term}
 use Rattle.margins.proofs.Foot.{Foot}
 use Rattle.margins.proofs.Clamp.{Fraction, clamp-fraction}

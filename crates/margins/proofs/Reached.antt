@@ -9,7 +9,7 @@ use lib.Ieee.{Float, binary64, ofBits}
 use lib.Ieee.Exact.{HasValue}
 use Rattle.math.specs.Number
 use Rattle.math.specs.Number.{one, add, mul}
-use Rattle.margins.proofs.Operations.{unit, upward}
+use Rattle.math.proofs.Operations.{unit, upward}
 use Rattle.margins.proofs.Scale.{Range, below-limit}
 use Rattle.margins.proofs.Clamp.{one-is}
 use Rattle.margins.proofs.Tolerance.{Reachable, reachable}

@@ -4,7 +4,7 @@ use Prim.Native.Nat.{ℕ, _*_, _^_, _≤_, _<_}
 use native.Mathlib.Nat.{le-trans, lt-of-le-of-lt, mul-le-mul, mul-le-mul-left}
 use native.Mathlib.Omega.{arith}
 use lib.Dec.{leb→le, ltb→lt}
-use Rattle.margins.proofs.Operations.{unit, limit}
+use Rattle.math.proofs.Operations.{unit, limit}
 
 -- R is at least 1, and far below the largest double
 pub record Range (R : ℕ) : Type 0 where

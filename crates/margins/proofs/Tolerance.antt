@@ -7,8 +7,8 @@ use native.Mathlib.Omega.{arith}
 use lib.Pow.{pow-pos}
 use lib.Ieee.{Float}
 use Rattle.math.specs.Number.{add, sub, mul}
-use Rattle.margins.proofs.Signed.{Signed, _⊖_, _⊕_, _⊟_, _⊗_, _·_, total, Close, Small, small-close, small-more}
-use Rattle.margins.proofs.Operations.{unit, limit, Is, total-small, Result, mul-near}
+use Rattle.math.proofs.Signed.{Signed, _⊖_, _⊕_, _⊟_, _⊗_, _·_, total, Close, Small, small-close, small-more}
+use Rattle.math.proofs.Operations.{unit, limit, Is, total-small, Result, mul-near}
 use Rattle.margins.proofs.Scale.{Range, sixty, coarse-enough, below-limit}
 use Rattle.margins.proofs.DotProduct.{Part, summed, difference}
 

@@ -1,8 +1,8 @@
 -- Doubles in units: a finite one is `over` - `under` units, and the order of doubles is that of their units. Assumes nothing.
-use mathlib.Core.Path.{_≡_, refl, sym, ap, _∙_}
+use mathlib.Core.Path.{_≡_, refl, sym, _∙_}
 use mathlib.Core.Bool.{Bool, true, false, cond, _&&_, true≢false, false≢true, _||_}
 use Prim.Native.Nat.{ℕ, zero, suc, _+_, _*_, _^_, _≤_, _<_, zero-le}
-use native.Mathlib.Nat.{le-trans, le-of-eq, mul-pos, mul-le-mul-right, le-of-mul-le-mul-right, mul-assoc, mul-right-comm}
+use native.Mathlib.Nat.{mul-pos}
 use native.Mathlib.Omega.{arith}
 use borrow.Author.Tests.{ltb-false, eq-eqb, le-ltb, ne-eqb}
 use lib.Dec.{T, ltb, eqb}
@@ -15,9 +15,11 @@ use Rattle.plane.specs.declared.PlanarPoint.{PlanarPoint}
 use Rattle.hypotenuse.specs.Hypot.{count}
 use Rattle.hypotenuse.proofs.Units.{count-of, count-exact}
 use Rattle.margins.specs.Far.{over, under}
-use Rattle.margins.proofs.Signed.{Signed, _⊖_, Vector}
-pub use Rattle.margins.proofs.Operations.{upward}
-use Rattle.margins.proofs.Operations.{signed, Is, by-sign}
+use Rattle.math.proofs.Signed.{Signed, _⊖_, Vector}
+pub use Rattle.math.proofs.Operations.{upward}
+pub use Rattle.math.proofs.Ranks.{units-order}
+use Rattle.math.proofs.Ranks.{lt-units}
+use Rattle.math.proofs.Operations.{signed, Is, by-sign}
 use Rattle.margins.proofs.Quotient.{Length}
 
 -- ---- a finite double in units
@@ -45,27 +47,10 @@ size-is (fin u m e) s t a b h k = count-of u s m e a h ∙ sym (count-of u t m e
 
 -- ---- order
 
--- a / c against b / d, which are P and Q units
-pub units-order : (a c b d P Q u : ℕ) → 0 < c → 0 < d → a * u ≡ P * c → b * u ≡ Q * d → a * d ≤ b * c → P ≤ Q
-units-order a c b d P Q u C D e f h =
-    le-of-mul-le-mul-right {k = c * d}
-    (le-trans (le-of-eq (sym (mul-assoc P c d) ∙ ap (λ (x : ℕ). x * d) (sym e) ∙ mul-right-comm a u d))
-    (le-trans (mul-le-mul-right u h) (le-of-eq (mul-right-comm b c u ∙ ap (λ (x : ℕ). x * c) f ∙ mul-right-comm Q d c ∙ mul-assoc Q c d))))
-    (mul-pos C D)
-
 -- g is not below z
 reaches-value : (g z : Float) (s : Bool) (q n : ℕ) → HasValue g false q (2 ^ 1074) → HasValue z s n (2 ^ 1074) → lt g z ≡ false → signed s n .plus ≤ q
-unfolding lt
-reaches-value nan z s q n v w h = absurd v
-reaches-value (inf _) z s q n v w h = absurd v
-reaches-value (fin _ _ _) nan s q n v w h = absurd w
-reaches-value (fin _ _ _) (inf _) s q n v w h = absurd w
-reaches-value (fin _ _ _) (fin _ _ _) true q n v w h = zero-le
-reaches-value (fin true _ _) (fin _ _ _) false q n v w h = absurd (true≢false (v .0))
-reaches-value (fin false _ _) (fin true _ _) false q n v w h = absurd (true≢false (w .0))
-reaches-value (fin false a d) (fin false b e) false q n v w h =
-    units-order (b * up e) (down e) (a * up d) (down d) n q (2 ^ 1074) (down-pos e) (down-pos d) (w .1) (v .1)
-    (ltb-false (a * up d * down e) (b * up e * down d) h)
+reaches-value g z true q n v w h = zero-le
+reaches-value g z false q n v w h = ltb-false q n (sym (lt-units g z false false q n v w) ∙ h)
 
 -- so it has at least as many units above 0
 pub reaches : (g z : Float) (q p m : ℕ) → HasValue g false q (2 ^ 1074) → Is z (p ⊖ m) → lt g z ≡ false → p ≤ q

@@ -5,6 +5,7 @@ ghost use lib.Ieee.{nan};
 ghost use Rattle.hypotenuse.specs.Hypot;
 ghost use Rattle.math.specs.Number;
 
+pub mod bits;
 mod root;
 
 // a where the test holds, else b.
@@ -84,7 +85,7 @@ pub fn hypot(x: f64, y: f64) -> f64
     let a = root::magnitude(x);
     let b = root::magnitude(y);
     let less = a < b;
-    let high = root::pick(less, b, a);
-    let low = root::pick(less, a, b);
+    let high = bits::pick(less, b, a);
+    let low = bits::pick(less, a, b);
     root::of_magnitudes(high, low)
 }

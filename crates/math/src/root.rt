@@ -1,11 +1,12 @@
 // The parts of `hypot`: the rounded root of a sum of two squares, worked out in whole numbers.
 ghost use mathlib.Core.Path.{_≡_};
-ghost use mathlib.Core.Bool.{not, false, cond};
+ghost use mathlib.Core.Bool.{not, false};
 ghost use Prim.Native.Nat.{ℕ, _+_, _-_, _*_, _/_, _%_, _^_, _≤_, _<_};
 ghost use lib.Dec.{T};
 ghost use lib.Ieee.{nan, binary64, toBits, ofBits, isNan, units};
 ghost use Rattle.hypotenuse.specs.Hypot.{hypot, round-root};
-ghost use Rattle.math.specs.Parts.{RootOf, Halved, WideOf, CutOf, Twice, Fourth, Parts, Larger, exponent-of, significand-of, units-of};
+ghost use Rattle.math.specs.Parts.{RootOf, Halved, WideOf, CutOf, Twice, Fourth, Parts, Larger, units-of};
+use crate::bits;
 
 // 2^27, 2^52, 2^54, and the pattern of infinity.
 const BASE: u64 = 0x800_0000;
@@ -33,13 +34,6 @@ struct Cut {
     hi: u64,
     lo: u64,
     lost: u64,
-}
-
-// a where the test holds, else b.
-pub(crate) fn pick(test: bool, a: u64, b: u64) -> u64
-    ensures { λ r. ⌜ r ≡ cond test a b ⌝ }
-{
-    if test { a } else { b }
 }
 
 // One binary digit of the root for each pair of binary digits of `word`, the highest first.
@@ -228,33 +222,7 @@ fn fourth(root: u64, rest: u64) -> u64
 {
     let q = root / 4;
     let r = root % 4;
-    q + pick((r > 2) | ((r == 2) & ((rest > 0) | (q % 2 == 1))), 1, 0)
-}
-
-// The exponent of a pattern without a sign, counted from the smallest.
-fn exponent(a: u64) -> u64
-    ensures { λ r. ⌜ r ≡ exponent-of a ⌝ }
-{
-    let field = a >> 52;
-    if field == 0 { 0 } else { field - 1 }
-}
-
-// The digits below the leading one.
-fn fraction(a: u64) -> u64
-    ensures { λ r. ⌜ r ≡ a % 2 ^ 52 ⌝ }
-{
-    a & 0xf_ffff_ffff_ffff
-}
-
-fn significand(a: u64) -> u64
-    ensures { λ r. ⌜ r ≡ significand-of a ⌝ }
-{
-    let digits = fraction(a);
-    if a >> 52 == 0 {
-        digits
-    } else {
-        digits + HIDDEN
-    }
+    q + bits::pick((r > 2) | ((r == 2) & ((rest > 0) | (q % 2 == 1))), 1, 0)
 }
 
 // The pattern of q * 2^k units, or of infinity where that is too large.
@@ -275,8 +243,8 @@ fn rounded(x: u64, root: u64, rest: u64) -> u64
     ensures { λ r. ⌜ (r ≤ 0x7ff0_0000_0000_0000) × ((s : ℕ) → Twice s (2 * x) root rest → ofBits binary64 r ≡ round-root binary64 s) ⌝ }
 {
     let short = root < WORD;
-    let digits = pick(short, root * 2, root);
-    let scale = pick(short, x, x + 1);
+    let digits = bits::pick(short, root * 2, root);
+    let scale = bits::pick(short, x, x + 1);
     assemble(fourth(digits, rest), scale)
 }
 
@@ -286,12 +254,12 @@ fn of_finite(a: u64, b: u64) -> u64
     requires { ⌜ a < 0x7ff0_0000_0000_0000 ⌝ }
     ensures { λ r. ⌜ (r ≤ 0x7ff0_0000_0000_0000) × (ofBits binary64 r ≡ round-root binary64 (units-of a * units-of a + units-of b * units-of b)) ⌝ }
 {
-    let x = exponent(a);
-    let d = x - exponent(b);
+    let x = bits::exponent(a);
+    let d = x - bits::exponent(b);
     if d > 27 {
         return a;
     }
-    let r = twice_root(significand(a), significand(b), d);
+    let r = twice_root(bits::significand(a), bits::significand(b), d);
     rounded(x, r.root, r.rest)
 }
 
@@ -300,7 +268,7 @@ pub(crate) fn magnitude(x: f64) -> u64
     requires { ⌜ T (not (isNan x)) ⌝ }
     ensures { λ r. ⌜ r ≡ toBits binary64 x % 2 ^ 63 ⌝ }
 {
-    f64::to_bits(x) & 0x7fff_ffff_ffff_ffff
+    bits::magnitude(f64::to_bits(x))
 }
 
 // The rounded root of two patterns without a sign, none of them a NaN's, b being at most a.

@@ -42,7 +42,8 @@ use Rattle.offset.specs.Clear.{is-inside, is-outside, right-side, every-
 use Rattle.offset.specs.Rings.{offset-piece}
 use Rattle.offset.specs.Offsets.{check-distance, pieces-refused, expected, with-piece, visit-piece, pieces-refusal, pieces, clear-of, keeps-clear, offset-clear, offset-found, offset-finished, offset-swept, offset-counted, offset-plain, sweep, offset-from, offset-by, offset}
 use Rattle.offset.specs.Answers.{KeptClear, OffsetAccepted, NewOutlineProper, OutlineProper, OffsetProper}
-use Rattle.offset.proofs.Choices.{either, both, all-pass, none-pass}
+use Rattle.loops.proofs.Tests.{none-pass}
+use Rattle.offset.proofs.Choices.{either, both, all-pass}
 use Rattle.offset.proofs.Visits.{visits-keep}
 use Rattle.offset.proofs.Storing.{stored-new}
 use Rattle.offset.proofs.Passes.{Passed, check-sound, PassedPiece, piece-sound}

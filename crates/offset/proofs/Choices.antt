@@ -44,15 +44,6 @@ module _ (f : ℕ → Bool → Bool) (test : ℕ → Bool) (body : (k : ℕ) (s 
   pass-all zero h = refl
   pass-all (suc n) h = body n (rounds f n true) ∙ rw (pass-all n (λ k l. h k (omega arith)), h n (omega arith)) refl
 
--- a loop that asks whether some round's test is passed
-module _ (f : ℕ → Bool → Bool) (test : ℕ → Bool) (body : (k : ℕ) (s : Bool) → f k s ≡ (s || test k)) where
-  pub none-pass : (n : ℕ) → rounds f n false ≡ false → (k : ℕ) → k < n → test k ≡ false
-  none-pass =
-      rounds-keep f (λ n s. s ≡ false → (k : ℕ) → k < n → test k ≡ false) false (λ q k l. absurd (omega arith))
-      (λ i s h q k l.
-      let z : (s || test i) ≡ false = sym (body i s) ∙ q in
-      by-cases k i (λ e. rw e (or-right s (test i) z)) (λ e. h (or-left s (test i) z) k (omega arith)))
-
 -- a loop that adds up
 module _ (f : ℕ → ℕ → ℕ) (more : ℕ → ℕ) (body : (k s : ℕ) → f k s ≡ s + more k) where
   pub sums-grow : (m n : ℕ) → rounds f m 0 ≤ rounds f (n + m) 0

@@ -32,7 +32,8 @@ use Rattle.front.proofs.Demand.Choice.{and-left, and-right}
 use Rattle.offset.specs.Clear.{is-inside, every-vertex}
 use Rattle.offset.specs.Rings.{offset-piece}
 use Rattle.offset.specs.Offsets.{check-distance}
-use Rattle.offset.proofs.Choices.{either, both, all-pass, none-pass}
+use Rattle.loops.proofs.Tests.{none-pass}
+use Rattle.offset.proofs.Choices.{either, both, all-pass}
 use Rattle.offset.proofs.Visits.{visits-keep}
 use Rattle.offset.proofs.Passes.{Passed, PassedPiece, piece-sound}
 use Rattle.offset.proofs.Good.{GoodRing, good-ring, good-proper}

@@ -13,7 +13,8 @@ use Rattle.meet.specs.Meet.{rings-meet}
 use Rattle.front.proofs.Demand.Occ.{by-cases}
 use Rattle.front.proofs.Demand.Choice.{and-left, and-right}
 use Rattle.offset.specs.Clear.{every-step, every-vertex}
-use Rattle.offset.proofs.Choices.{all-pass, pass-all, none-pass}
+use Rattle.loops.proofs.Tests.{none-pass, none-all}
+use Rattle.offset.proofs.Choices.{all-pass, pass-all}
 use Rattle.offset.proofs.Accepted.{every-passes}
 use Rattle.region.specs.declared.Region.{Region}
 use Rattle.region.specs.Regions.{ring-points, ring-count}
@@ -40,12 +41,6 @@ module _ (f : ℕ → Bool → Bool) (test : ℕ → Bool) (body : (k : ℕ) (s 
   unfolding rounds
   rings-all zero h = h 0 (omega arith)
   rings-all (suc n) h = body n (rounds f n (test 0)) ∙ rw (rings-all n (λ k l. h k (omega arith)), h (suc n) (omega arith)) refl
-
--- a loop that asks whether some round's test is passed, where none is
-none-all : (f : ℕ → Bool → Bool) (test : ℕ → Bool) → ((k : ℕ) (s : Bool) → f k s ≡ (s || test k)) → (n : ℕ) → ((k : ℕ) → k < n → test k ≡ false) → rounds f n false ≡ false
-unfolding rounds
-none-all f test body zero h = refl
-none-all f test body (suc n) h = body n (rounds f n false) ∙ rw (none-all f test body n (λ k l. h k (omega arith)), h n (omega arith)) refl
 
 agree : (x y : Bool) → (x ≡ true → y ≡ true) → (y ≡ true → x ≡ true) → x ≡ y
 agree true y p q = sym (p refl)

@@ -6,6 +6,7 @@ use crate::parts;
 use crate::shapes;
 use crate::tally::Tally;
 use crate::tally::UNREAD;
+use crate::turns;
 
 // How many fields a line may have.
 pub(crate) const ROOM: usize = 1100;
@@ -75,6 +76,9 @@ fn answered<'a>(kind: u64, answer: &'a [u64], words: &'a [u64], numbers: &'a [f6
         9 => holed::region(answer, words, numbers),
         10 => holed::inset(answer, words, numbers),
         11 => holed::within(answer, words, numbers),
+        12 => turns::turned(answer, numbers),
+        13 => turns::meeting(answer, numbers),
+        14 => turns::folded(answer, numbers),
         _ => false,
     }
 }
@@ -83,7 +87,7 @@ fn answered<'a>(kind: u64, answer: &'a [u64], words: &'a [u64], numbers: &'a [f6
 fn take_fields<'a>(t: Tally, fields: &'a [u64], numbers: &'a [f64], count: usize) -> Tally {
     let kind = parts::field_at(fields, 0);
     let given = parts::field_at(fields, 1) as usize;
-    if 11 < kind {
+    if 14 < kind {
         return t.with(UNREAD, false);
     }
     if ROOM < given {

@@ -1,6 +1,7 @@
-// Replays the reference's answers to questions about outlines and regions, and says how many differ.
+// Replays the reference's answers to questions about outlines, regions and turns, and says how many differ.
 //
-// A line of standard input has fields of 16 lower-case hexadecimal digits, parted by commas: the kind of question, how many fields of answer follow, the answer, the question.
+// A line of standard input has fields of 16 lower-case hexadecimal digits, parted by commas: the kind of question,
+// how many fields of answer follow, the answer, the question.
 mod holed;
 mod kinds;
 mod line;
@@ -8,6 +9,7 @@ mod offsets;
 mod parts;
 mod shapes;
 mod tally;
+mod turns;
 
 // Room for the whole input.
 fn room() -> [u8; 4194304] {

@@ -9,7 +9,7 @@ use lib.Dec.{ltb}
 use lib.ListN.{length, getD, List·getD-eq-default}
 use lib.Ieee.{Float, nan}
 use Rattle.plane.specs.declared.PlanarPoint.{PlanarPoint}
-use Rattle.ring.specs.Ring.{vertex-at, following}
+use Rattle.ring.specs.Ring.{vertex-at, following, edge-end}
 
 pub past-end : (ps : List Float) (i : ℕ) → length ps ≤ i → nan ≡ getD ps i nan
 past-end ps i l = sym (List·getD-eq-default ps nan {n = i} l)
@@ -36,3 +36,8 @@ following-lt n k l = go (ltb (k + 1) n) refl
     go : (b : Bool) → ltb (k + 1) n ≡ b → cond b (k + 1) 0 < n
     go true e = ltb-true (k + 1) n e
     go false e = omega arith
+
+-- what holds of every vertex holds of the ends of edges
+pub at-ends : (P : PlanarPoint → Type 0) (ps : List Float) (n : ℕ) → ((k : ℕ) → k < n → P (vertex-at ps k)) → (k : ℕ) → k < n → P (edge-end ps n k)
+unfolding edge-end
+at-ends P ps n h k l = h (following n k) (following-lt n k l)

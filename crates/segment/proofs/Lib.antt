@@ -1,2 +1,8 @@
-pub mod Turns
 pub mod Across
+pub mod Meet
+pub mod Shared
+pub mod Floats
+pub mod Theorem
+pub mod OnSegment
+pub mod Symmetric
+pub mod Sides

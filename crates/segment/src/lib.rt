@@ -1,14 +1,10 @@
-// Segments of the plane: on which side a point lies, whether two segments meet, and the nearest point of one.
+// Segments of the plane: whether two of them meet or fold back, and the nearest point of one.
 ghost use mathlib.Core.Path.{_≡_};
+ghost use Rattle.turn.specs.Turns;
 ghost use Rattle.segment.specs.Segments;
+ghost use Rattle.segment.specs.Meeting;
 use plane::PlanarPoint;
-
-// Twice the signed area of the triangle abc.
-pub fn orient(a: PlanarPoint, b: PlanarPoint, c: PlanarPoint) -> f64
-    ensures { λ r. ⌜ r ≡ Segments.orient a b c ⌝ }
-{
-    plane::cross(plane::sub(b, a), plane::sub(c, a))
-}
+use turn::Turn;
 
 // Whether p, on the segment's line, lies within its bounding box.
 pub(crate) fn within_box(a: PlanarPoint, b: PlanarPoint, p: PlanarPoint) -> bool
@@ -21,45 +17,77 @@ pub(crate) fn within_box(a: PlanarPoint, b: PlanarPoint, p: PlanarPoint) -> bool
     (west <= p.east) & ((p.east <= east) & ((south <= p.north) & (p.north <= north)))
 }
 
-// Of two cross products one is to the left and the other to the right.
-pub fn apart(d: f64, e: f64) -> bool
-    ensures { λ r. ⌜ r ≡ Segments.apart (Segments.side d) (Segments.side e) ⌝ }
+// Whether p, whose turn from the segment is d, lies on it.
+pub(crate) fn touches(d: Turn, a: PlanarPoint, b: PlanarPoint, p: PlanarPoint) -> bool
+    ensures { λ r. ⌜ r ≡ Segments.touches d a b p ⌝ }
 {
-    ((0.0 < d) & (e < 0.0)) | ((d < 0.0) & (0.0 < e))
+    turn::is_straight(d) & within_box(a, b, p)
 }
 
-// Whether p, whose cross product from the segment is d, lies on it.
-pub fn touches(d: f64, a: PlanarPoint, b: PlanarPoint, p: PlanarPoint) -> bool
-    ensures { λ r. ⌜ r ≡ Segments.touches (Segments.side d) a b p ⌝ }
+// Whether p lies on the segment ab. Few points are in its box, which is asked first.
+pub fn on_segment(a: PlanarPoint, b: PlanarPoint, p: PlanarPoint) -> bool
+    ensures { λ r. ⌜ r ≡ Segments.touches (Turns.turn a b p) a b p ⌝ }
 {
-    (d == 0.0) & within_box(a, b, p)
+    if within_box(a, b, p) {
+        turn::is_straight(turn::of_points(a, b, p))
+    } else {
+        false
+    }
 }
 
-// Whether two closed segments have a point in common.
+// The last step of `segments_meet`, from the four turns: the segments cross, or an end of one lies on the other.
+pub(crate) fn meet_by(
+    d1: Turn,
+    d2: Turn,
+    d3: Turn,
+    d4: Turn,
+    p1: PlanarPoint,
+    p2: PlanarPoint,
+    q1: PlanarPoint,
+    q2: PlanarPoint,
+) -> bool
+    ensures { λ r. ⌜ r ≡ Segments.meet-by d1 d2 d3 d4 p1 p2 q1 q2 ⌝ }
+{
+    if turn::apart(d1, d2) & turn::apart(d3, d4) {
+        return true;
+    }
+    touches(d1, q1, q2, p1)
+        | (touches(d2, q1, q2, p2) | (touches(d3, p1, p2, q1) | touches(d4, p1, p2, q2)))
+}
+
+// Both turns are to the left, or both to the right.
+pub(crate) fn one_side(d: Turn, e: Turn) -> bool
+    ensures { λ r. ⌜ r ≡ Meeting.one-side d e ⌝ }
+{
+    (turn::is_left(d) & turn::is_left(e)) | (turn::is_right(d) & turn::is_right(e))
+}
+
+// Whether two closed segments have a point in common. Where one lies on one side of the other's line they have none.
 pub fn segments_meet(p1: PlanarPoint, p2: PlanarPoint, q1: PlanarPoint, q2: PlanarPoint) -> bool
     ensures { λ r. ⌜ r ≡ Segments.segments-meet p1 p2 q1 q2 ⌝ }
 {
-    let d1 = orient(q1, q2, p1);
-    let d2 = orient(q1, q2, p2);
-    let d3 = orient(p1, p2, q1);
-    let d4 = orient(p1, p2, q2);
-    let across = apart(d1, d2) & apart(d3, d4);
-    if (d1 == 0.0) | ((d2 == 0.0) | ((d3 == 0.0) | (d4 == 0.0))) {
-        across
-            | (touches(d1, q1, q2, p1)
-                | (touches(d2, q1, q2, p2) | (touches(d3, p1, p2, q1) | touches(d4, p1, p2, q2))))
-    } else {
-        across
+    let d1 = turn::of_points(q1, q2, p1);
+    let d2 = turn::of_points(q1, q2, p2);
+    if one_side(d1, d2) {
+        return false;
     }
+    let d3 = turn::of_points(p1, p2, q1);
+    let d4 = turn::of_points(p1, p2, q2);
+    if one_side(d3, d4) {
+        return false;
+    }
+    meet_by(d1, d2, d3, d4, p1, p2, q1, q2)
 }
 
 // Whether two edges that share an end overlap.
 pub fn folds_back(shared: PlanarPoint, a: PlanarPoint, b: PlanarPoint) -> bool
     ensures { λ r. ⌜ r ≡ Segments.folds-back shared a b ⌝ }
 {
-    let da = plane::sub(a, shared);
-    let db = plane::sub(b, shared);
-    (plane::cross(da, db) == 0.0) & (0.0 < plane::dot(da, db))
+    if 0.0 < plane::dot(plane::sub(a, shared), plane::sub(b, shared)) {
+        turn::is_straight(turn::of_points(shared, a, b))
+    } else {
+        false
+    }
 }
 
 // The point from a, along ab, at the fraction t.

@@ -1,20 +1,21 @@
 -- The two walks of `check-simple`: what they give where no pair is found so far, and where one is. Assumes nothing.
 use Prim.Native.Nat.{ℕ, zero, suc, _+_, _-_, _<_, _≤_}
-use native.Mathlib.Nat.{add-zero}
+use native.Mathlib.Nat.{add-zero, le-antisymm}
 use mathlib.Core.Path.{_≡_, refl, sym, ap, _∙_, subst}
-use mathlib.Core.Bool.{Bool, true, false, cond, _&&_, true≢false}
+use mathlib.Core.Bool.{Bool, true, false, cond, _&&_}
 use mathlib.Core.List.{List}
 use native.Mathlib.Omega.{arith}
-use borrow.Author.Tests.{eqb-true, eqb-false, eq-eqb, ne-eqb}
+use borrow.Author.Tests.{eqb-true, eq-eqb, ne-eqb}
 use lib.Dec.{eqb}
 use lib.Ieee.{Float}
 use Rattle.plane.specs.declared.PlanarPoint.{PlanarPoint}
 use Rattle.loops.specs.Loop.{rounds}
 use Rattle.loops.proofs.Laws.{no-round, next-round, stays-to}
-use Rattle.segment.specs.Segments.{orient, segments-meet, folds-back}
+use Rattle.segment.specs.Segments.{segments-meet, folds-back}
 use Rattle.ring.specs.Ring.{stored-at, following}
 use Rattle.ring.proofs.Vertices.{following-on}
 use Rattle.simple.specs.declared.Crossing.the-variants.{Simple, Edges}
+use Rattle.turn.specs.Turns.{Doubles}
 use Rattle.boxes.specs.Quick
 use Rattle.simple.specs.Simple.{crossing, crossing-by, unless-crossed, pair-step, edge-step, check-simple}
 
@@ -54,6 +55,10 @@ none-found ps (suc m) back i l h e =
     (subst (λ (x : ℕ). rounds (edge-step ps (suc m) back) x Simple ≡ Simple) d
     (row-none ps (suc m) back m c (ap (λ (x : ℕ). rounds (pair-step ps (suc m) back m) x Simple) b ∙ no-round (pair-step ps (suc m) back m) Simple)))
 
+-- a vertex that was read at another's number
+pub read-at : (ps : List Float) (n : ℕ) (back : Bool) {p : PlanarPoint} {x y : ℕ} → p ≡ stored-at ps n back x → x ≡ y → p ≡ stored-at ps n back y
+read-at ps n back e f = rw (← f) e
+
 -- ---- edge i and the next are neighbours
 
 module _ (ps : List Float) (n : ℕ) (back : Bool) (i : ℕ) (a1 a2 : PlanarPoint) where
@@ -75,142 +80,93 @@ module _ (ps : List Float) (n : ℕ) (back : Bool) (i : ℕ) (a1 a2 : PlanarPoin
 -- ---- one row: edge i and the edges after it
 
 module _ (ps : List Float) (n : ℕ) (back : Bool) (i : ℕ) (a1 a2 l h : PlanarPoint) (stop : ℕ) where
-  -- the first k pairs do not cross, and b1 is the start of the next edge
-  pub record Row (k : ℕ) (b1 : PlanarPoint) (d : Float) : Type 0 where
+  -- the first k pairs do not cross, and b1 is the start of the next edge; the pairs up to `stop` are of no neighbours
+  pub record Row (k : ℕ) (b1 : PlanarPoint) : Type 0 where
     pub begun : 1 ≤ k
     pub within : k ≤ n - (i + 1)
-    pub bound : stop ≤ n - (i + 1)
-    pub reach : n - (i + 1) ≤ stop + 1
-    pub closing : i ≡ 0 → stop + 1 ≤ n - (i + 1)
-    pub later : eqb i 0 ≡ false → stop ≡ n - (i + 1)
+    pub until : stop ≡ cond (eqb i 0) (n - (i + 1) - 1) (n - (i + 1))
     pub none : rounds (pair-step ps n back i) k Simple ≡ Simple
     pub from : a1 ≡ stored-at ps n back i
     pub to : a2 ≡ stored-at ps n back (following n i)
+    pub first : Doubles a1
+    pub second : Doubles a2
     pub least : l ≡ Quick.low a1 a2
     pub most : h ≡ Quick.high a1 a2
     pub next : b1 ≡ stored-at ps n back (following n (i + k))
-    pub turned : d ≡ orient a1 a2 b1
 
   pub row-begins :
-      (b1 : PlanarPoint) (d : Float) (x : Bool) → i < n - 1 → x ≡ folds-back a2 a1 b1 → x ≡ false → a1 ≡ stored-at ps n back i → a2 ≡ stored-at ps n back (following n i) →
-      l ≡ Quick.low a1 a2 → h ≡ Quick.high a1 a2 → stop ≡ cond (eqb i 0) (n - (i + 1) - 1) (n - (i + 1)) → b1 ≡ stored-at ps n back (following n (i + 1)) →
-      d ≡ orient a1 a2 b1 → Row 1 b1 d
-  row-begins b1 d x lt p c e1 e2 e3 e4 s e5 e6 = go (eqb i 0) refl s
-    where
-      first : rounds (pair-step ps n back i) 1 Simple ≡ Simple
-      first = pair-none ps n back i 0 (no-round (pair-step ps n back i) Simple) (rw add-zero (sym (next-asks ps n back i a1 a2 b1 e1 e2 e5) ∙ sym p ∙ c))
+      (b1 : PlanarPoint) (x : Bool) → i < n - 1 → x ≡ folds-back a2 a1 b1 → x ≡ false → a1 ≡ stored-at ps n back i → a2 ≡ stored-at ps n back (following n i) →
+      (l ≡ Quick.low a1 a2) × (Doubles a1 × Doubles a2) → h ≡ Quick.high a1 a2 → stop ≡ cond (eqb i 0) (n - (i + 1) - 1) (n - (i + 1)) → b1 ≡ stored-at ps n back (following n (i + 1)) → Row 1 b1
+  row-begins b1 x lt p c e1 e2 e3 e4 s e5 =
+      let none = pair-none ps n back i 0 (no-round (pair-step ps n back i) Simple) (rw add-zero (sym (next-asks ps n back i a1 a2 b1 e1 e2 e5) ∙ sym p ∙ c)) in
+      record { begun = omega arith; within = omega arith; until = s; none = none; from = e1; to = e2; first = e3 .1 .0; second = e3 .1 .1; least = e3 .0; most = e4; next = e5 }
 
-      go : (b : Bool) → eqb i 0 ≡ b → stop ≡ cond b (n - (i + 1) - 1) (n - (i + 1)) → Row 1 b1 d
-      go true e s =
-          let z : i ≡ 0 = eqb-true i 0 e in
-          record {
-            begun = omega arith;
-            within = omega arith;
-            bound = omega arith;
-            reach = omega arith;
-            closing = λ q. omega arith;
-            later = λ q. absurd (true≢false (sym e ∙ q));
-            none = first;
-            from = e1;
-            to = e2;
-            least = e3;
-            most = e4;
-            next = e5;
-            turned = e6;
-          }
-      go false e s =
-          record {
-            begun = omega arith;
-            within = omega arith;
-            bound = omega arith;
-            reach = omega arith;
-            closing = λ q. absurd (eqb-false i 0 e q);
-            later = λ q. s;
-            none = first;
-            from = e1;
-            to = e2;
-            least = e3;
-            most = e4;
-            next = e5;
-            turned = e6;
-          }
-
-  module _ (k : ℕ) (b1 : PlanarPoint) (d : Float) (r : Row k b1 d) where
-    -- edges i and i + 1 + k are no neighbours
-    far : k < stop → (eqb i 0 && eqb (i + 1 + k) (n - 1)) ≡ false
-    far l = go (eqb i 0) refl
+  module _ (k : ℕ) (b1 : PlanarPoint) (r : Row k b1) where
+    -- whether edge i is the first, by `stop`
+    by-first : (P : Bool → Type 0) → (i ≡ 0 → stop ≡ n - (i + 1) - 1 → P true) → (stop ≡ n - (i + 1) → P false) → P (eqb i 0)
+    by-first P x y = go (eqb i 0) refl (r .until)
       where
-        go : (b : Bool) → eqb i 0 ≡ b → (b && eqb (i + 1 + k) (n - 1)) ≡ false
-        go false e = refl
-        go true e = let z : i ≡ 0 = eqb-true i 0 e in let m : stop + 1 ≤ n - (i + 1) = r .closing z in ne-eqb (i + 1 + k) (n - 1) (λ q. omega arith)
+        go : (b : Bool) → eqb i 0 ≡ b → stop ≡ cond b (n - (i + 1) - 1) (n - (i + 1)) → P b
+        go true e s = x (eqb-true i 0 e) s
+        go false e s = y s
 
-    starts-at : k < n - (i + 1) → b1 ≡ stored-at ps n back (i + 1 + k)
-    starts-at l =
+    pub bound : stop ≤ n - (i + 1)
+    bound = by-first (λ (b : Bool). stop ≤ n - (i + 1)) (λ z s. omega arith) (λ s. omega arith)
+
+    -- the closing pair is the last
+    last : stop ≤ k → k < n - (i + 1) → k + 1 ≡ n - (i + 1)
+    last m l = by-first (λ (b : Bool). k + 1 ≡ n - (i + 1)) (λ z s. omega arith) (λ s. omega arith)
+
+    starts : k < n - (i + 1) → b1 ≡ stored-at ps n back (i + 1 + k)
+    starts l =
         let e : i + k + 1 ≡ i + 1 + k = omega arith in
         r .next ∙ ap (stored-at ps n back) (sym (following-on n (i + k) (omega arith)) ∙ e)
 
-    starts : k < stop → b1 ≡ stored-at ps n back (i + 1 + k)
-    starts l = let b : stop ≤ n - (i + 1) = r .bound in starts-at (omega arith)
+    beyond : eqb (i + 1 + k) (i + 1) ≡ false
+    beyond = let g : 1 ≤ k = r .begun in ne-eqb (i + 1 + k) (i + 1) (λ q. omega arith)
 
-    closing-pair :
-        eqb (i + 1 + k) (i + 1) ≡ false → eqb i 0 ≡ true → eqb (i + 1 + k) (n - 1) ≡ true → b1 ≡ stored-at ps n back (i + 1 + k) → folds-back a1 a2 b1 ≡ crossing ps n back i (i + 1 + k)
+    -- edges i and i + 1 + k are no neighbours
+    far : k < stop → (eqb i 0 && eqb (i + 1 + k) (n - 1)) ≡ false
+    far l = by-first (λ (b : Bool). (b && eqb (i + 1 + k) (n - 1)) ≡ false) (λ z s. ne-eqb (i + 1 + k) (n - 1) (λ q. omega arith)) (λ s. refl)
+
+    not-both : {a b : ℕ} → a ≤ b → b < a → ⊥
+    not-both l h = omega arith
+
+    -- the closing pair is of neighbours
+    closing : stop ≤ k → k < n - (i + 1) → (eqb i 0 && eqb (i + 1 + k) (n - 1)) ≡ true
+    closing m l = by-first (λ (b : Bool). (b && eqb (i + 1 + k) (n - 1)) ≡ true) (λ z s. eq-eqb (i + 1 + k) (n - 1) (omega arith)) (λ s. absurd (not-both (omega arith) l))
+
+    row-asks : (b2 : PlanarPoint) → k < stop → b2 ≡ stored-at ps n back (following n (i + 1 + k)) → segments-meet a1 a2 b1 b2 ≡ crossing ps n back i (i + 1 + k)
     unfolding crossing crossing-by
-    closing-pair x y z e = rw (← r .from, ← r .to, ← e, x, y, z) refl
+    row-asks b2 l e = let b = bound in rw (← r .from, ← r .to, ← starts (omega arith), ← e, beyond, far l) refl
 
-    less : {a b : ℕ} → a ≤ b → b < a → ⊥
-    less l h = omega arith
-
-    pub row-asks : (b2 : PlanarPoint) → k < stop → b2 ≡ stored-at ps n back (following n (i + 1 + k)) → segments-meet a1 a2 b1 b2 ≡ crossing ps n back i (i + 1 + k)
+    closing-asks : stop ≤ k → k < n - (i + 1) → folds-back a1 a2 b1 ≡ crossing ps n back i (i + 1 + k)
     unfolding crossing crossing-by
-    row-asks b2 l e =
-        let g : 1 ≤ k = r .begun in
-        rw (← r .from, ← r .to, ← starts l, ← e, ne-eqb (i + 1 + k) (i + 1) (λ q. omega arith), far l) refl
+    closing-asks m l = rw (← r .from, ← r .to, ← starts l, beyond, closing m l) refl
 
-    pub row-goes-on :
-        (b2 : PlanarPoint) (e : Float) (m : Bool) → k < stop → b2 ≡ stored-at ps n back (following n (i + 1 + k)) → e ≡ orient a1 a2 b2 → m ≡ segments-meet a1 a2 b1 b2 →
-        m ≡ false → Row (k + 1) b2 e
-    row-goes-on b2 e m l p q s t =
-        let b : stop ≤ n - (i + 1) = r .bound in
+    pub row-goes-on : (b2 : PlanarPoint) (m : Bool) → k < stop → b2 ≡ stored-at ps n back (following n (i + 1 + k)) → m ≡ segments-meet a1 a2 b1 b2 → m ≡ false → Row (k + 1) b2
+    row-goes-on b2 m l p s t =
+        let b = bound in
         let a : i + 1 + k ≡ i + (k + 1) = omega arith in
         record {
           begun = omega arith;
           within = omega arith;
-          bound = r .bound;
-          reach = r .reach;
-          closing = r .closing;
-          later = r .later;
+          until = r .until;
           none = pair-none ps n back i k (r .none) (sym (row-asks b2 l p) ∙ sym s ∙ t);
           from = r .from;
           to = r .to;
+          first = r .first;
+          second = r .second;
           least = r .least;
           most = r .most;
           next = p ∙ ap (λ (x : ℕ). stored-at ps n back (following n x)) a;
-          turned = q;
         }
 
-    -- the closing pair is the last, and it is of neighbours
-    closing-asks : stop ≤ k → k < n - (i + 1) → folds-back a1 a2 b1 ≡ crossing ps n back i (i + 1 + k)
-    closing-asks m l = go (eqb i 0) refl
-      where
-        go : (b : Bool) → eqb i 0 ≡ b → folds-back a1 a2 b1 ≡ crossing ps n back i (i + 1 + k)
-        go true e =
-            let z : i ≡ 0 = eqb-true i 0 e in
-            let g : 1 ≤ k = r .begun in
-            let f : n - (i + 1) ≤ stop + 1 = r .reach in
-            closing-pair (ne-eqb (i + 1 + k) (i + 1) (λ q. omega arith)) e (eq-eqb (i + 1 + k) (n - 1) (omega arith)) (starts-at (omega arith))
-        go false e = let f : stop ≡ n - (i + 1) = r .later e in absurd (less (omega arith) l)
-
     pub row-closes : (x : Bool) → stop ≤ k → k < n - (i + 1) → x ≡ folds-back a1 a2 b1 → x ≡ false → rounds (pair-step ps n back i) (n - (i + 1)) Simple ≡ Simple
-    row-closes x m l p q =
-        let g : n - (i + 1) ≤ stop + 1 = r .reach in
-        let a : k + 1 ≡ n - (i + 1) = omega arith in
-        ap (λ (x : ℕ). rounds (pair-step ps n back i) x Simple) (sym a) ∙ pair-none ps n back i k (r .none) (sym (closing-asks m l) ∙ sym p ∙ q)
+    row-closes x m l p q = ap (λ (x : ℕ). rounds (pair-step ps n back i) x Simple) (sym (last m l)) ∙ pair-none ps n back i k (r .none) (sym (closing-asks m l) ∙ sym p ∙ q)
 
     pub row-ends : n - (i + 1) ≤ k → rounds (pair-step ps n back i) (n - (i + 1)) Simple ≡ Simple
-    row-ends l =
-        let g : k ≤ n - (i + 1) = r .within in
-        let a : k ≡ n - (i + 1) = omega arith in
-        ap (λ (x : ℕ). rounds (pair-step ps n back i) x Simple) (sym a) ∙ r .none
+    row-ends l = ap (λ (x : ℕ). rounds (pair-step ps n back i) x Simple) (le-antisymm l (r .within)) ∙ r .none
 
     module _ (so-far : rounds (edge-step ps n back) i Simple ≡ Simple) (below : i < n) where
       found : (x : Bool) → k < n - (i + 1) → x ≡ crossing ps n back i (i + 1 + k) → x ≡ true → Edges i (i + 1 + k) ≡ check-simple ps n back
@@ -219,5 +175,7 @@ module _ (ps : List Float) (n : ℕ) (back : Bool) (i : ℕ) (a1 a2 l h : Planar
       pub found-last : (x : Bool) → stop ≤ k → k < n - (i + 1) → x ≡ folds-back a1 a2 b1 → x ≡ true → Edges i (i + 1 + k) ≡ check-simple ps n back
       found-last x m l p q = found x l (p ∙ closing-asks m l) q
 
-      pub found-far : (b2 : PlanarPoint) (m : Bool) → k < stop → b2 ≡ stored-at ps n back (following n (i + 1 + k)) → m ≡ segments-meet a1 a2 b1 b2 → m ≡ true → Edges i (i + 1 + k) ≡ check-simple ps n back
-      found-far b2 m l p s t = let b : stop ≤ n - (i + 1) = r .bound in found m (omega arith) (s ∙ row-asks b2 l p) t
+      pub found-far :
+          (b2 : PlanarPoint) (m : Bool) → k < stop → b2 ≡ stored-at ps n back (following n (i + 1 + k)) → m ≡ segments-meet a1 a2 b1 b2 → m ≡ true →
+          Edges i (i + 1 + k) ≡ check-simple ps n back
+      found-far b2 m l p s t = let b = bound in found m (omega arith) (s ∙ row-asks b2 l p) t

@@ -1,1 +1,3 @@
 pub mod Simple
+pub mod Exact
+pub mod Examples

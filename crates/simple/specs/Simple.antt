@@ -18,7 +18,11 @@ crossing-by n i j a1 a2 b1 b2 =
 
 unfoldable pub crossing : List Float → ℕ → Bool → ℕ → ℕ → Bool
 crossing ps n back i j =
-    crossing-by n i j (stored-at ps n back i) (stored-at ps n back (following n i)) (stored-at ps n back j) (stored-at ps n back (following n j))
+    crossing-by n i j
+    (stored-at ps n back i)
+    (stored-at ps n back (following n i))
+    (stored-at ps n back j)
+    (stored-at ps n back (following n j))
 
 -- a pair that was found stays
 unfoldable pub unless-crossed : Crossing → Crossing → Crossing

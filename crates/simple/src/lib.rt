@@ -1,9 +1,6 @@
 // Whether a ring is simple: two nested walks over its edges, left at the first pair that crosses or touches.
 ghost use mathlib.Core.Path.{_≡_};
-ghost use Rattle.segment.specs.Segments;
-ghost use Rattle.boxes.specs.Quick;
 ghost use Rattle.simple.specs.Simple;
-use plane::PlanarPoint;
 
 // The first two edges of a ring that cross or touch, if any.
 pub enum Crossing {
@@ -11,32 +8,8 @@ pub enum Crossing {
     Edges(usize, usize),
 }
 
-// Whether two segments meet, a's box and the cross products of b's ends from a given.
-pub(crate) fn segments_meet(
-    a1: PlanarPoint,
-    a2: PlanarPoint,
-    l: PlanarPoint,
-    h: PlanarPoint,
-    b1: PlanarPoint,
-    b2: PlanarPoint,
-    d: f64,
-    e: f64,
-) -> bool
-    requires { ⌜ (l ≡ Quick.low a1 a2) × ((h ≡ Quick.high a1 a2) × ((d ≡ Segments.orient a1 a2 b1) × (e ≡ Segments.orient a1 a2 b2))) ⌝ }
-    ensures { λ r. ⌜ r ≡ Segments.segments-meet a1 a2 b1 b2 ⌝ }
-{
-    if boxes::clear(d, e, l, h, b1, b2) {
-        return false;
-    }
-    let f = segment::orient(b1, b2, a1);
-    let g = segment::orient(b1, b2, a2);
-    if (f == 0.0) | ((g == 0.0) | ((d == 0.0) | (e == 0.0))) {
-        return segment::segments_meet(a1, a2, b1, b2);
-    }
-    segment::apart(f, g) & segment::apart(d, e)
-}
-
-// Edge i and the next are neighbours, and so are the first edge and the last; the pairs between are walked with their common values kept.
+// Edge i and the next are neighbours, and so are the first edge and the last; the pairs between are walked with the box of edge i kept, and
+// edges beside it are passed over.
 pub fn check_simple(ps: &[f64], n: usize, back: bool) -> Crossing
     ensures { λ r. ⌜ r ≡ Simple.check-simple (now (ps .entry)) n back ⌝ }
 {
@@ -54,19 +27,19 @@ pub fn check_simple(ps: &[f64], n: usize, back: bool) -> Crossing
         let h = boxes::high(a1, a2);
         let row = n - (i + 1);
         let stop = ring::choose(i == 0, row - 1, row);
-        let mut d = segment::orient(a1, a2, b1);
         let mut k = 1;
         while k < stop {
             let j = i + 1 + k;
             let b2 = ring::stored_at(ps, n, back, ring::following(n, j));
-            let e = segment::orient(a1, a2, b2);
-            if segments_meet(a1, a2, l, h, b1, b2, d, e) {
-                found = Crossing::Edges(i, j);
-                break 'pairs;
-            }
+            let start = b1;
             b1 = b2;
-            d = e;
             k += 1;
+            if !boxes::passed_over(l, h, start, b2) {
+                if segment::segments_meet(a1, a2, start, b2) {
+                    found = Crossing::Edges(i, j);
+                    break 'pairs;
+                }
+            }
         }
         let at = i;
         i += 1;

@@ -1,6 +1,6 @@
 //! Job lines on standard input, answer lines on standard output.
 //!
-//! `oracle [--hypot exact|std] [--region] [--full | --tally]`
+//! `oracle [--hypot exact|std] [--turns exact|rounded] [--region] [--full | --tally]`
 
 use std::io::{self, BufWriter, Write};
 use std::process::ExitCode;
@@ -9,8 +9,10 @@ use oracle::answer::{answer_line_by, Single};
 use oracle::hypot;
 use oracle::lines::next_line;
 use oracle::tally::Tally;
+use oracle::turns;
 
-const USAGE: &str = "usage: oracle [--hypot exact|std] [--region] [--full | --tally]";
+const USAGE: &str =
+    "usage: oracle [--hypot exact|std] [--turns exact|rounded] [--region] [--full | --tally]";
 
 enum Mode {
     Plain,
@@ -29,6 +31,11 @@ fn choice() -> Option<(Mode, Single)> {
             "--hypot" => hypot::use_library(match words.next()?.as_str() {
                 "exact" => false,
                 "std" => true,
+                _ => return None,
+            }),
+            "--turns" => turns::use_rounded(match words.next()?.as_str() {
+                "exact" => false,
+                "rounded" => true,
                 _ => return None,
             }),
             _ => return None,

@@ -1,15 +1,15 @@
-//! Questions about outlines or regions from a seed, each with the reference's
-//! answer.
+//! Questions about outlines, regions or points from a seed, each with the
+//! reference's answer.
 //!
-//! `outlines SEED COUNT [--offsets | --regions] [--tally]`
+//! `outlines SEED COUNT [--offsets | --regions | --turns] [--tally]`
 
 use std::io::{self, BufWriter, Write};
 use std::process::ExitCode;
 
-use oracle::generate::{offset, question, region};
+use oracle::generate::{offset, question, region, turning};
 use oracle::outlines::{Question, Tally};
 
-const USAGE: &str = "usage: outlines SEED COUNT [--offsets | --regions] [--tally]";
+const USAGE: &str = "usage: outlines SEED COUNT [--offsets | --regions | --turns] [--tally]";
 
 struct Load {
     seed: u64,
@@ -26,6 +26,7 @@ fn load() -> Option<Load> {
         match word.as_str() {
             "--offsets" => draw = offset,
             "--regions" => draw = region,
+            "--turns" => draw = turning,
             "--tally" => tally = true,
             _ => numbers.push(word.parse().ok()?),
         }

@@ -1,14 +1,9 @@
 //! Jobs that meet a question before the front is loaded.
 
-use super::shape::{rectangle, reorder, square, star, whole_points, write, Ring};
+use super::shape::{moved, rectangle, reorder, square, star, whole_points, write, Ring};
 use super::SMALL;
 use crate::draw::Draw;
 use crate::job::Job;
-
-/// The double above 10⁹.
-fn above() -> f64 {
-    f64::from_bits(1e9_f64.to_bits() + 1)
-}
 
 fn side(draw: &mut Draw) -> f64 {
     draw.whole(4, 40) as f64
@@ -110,7 +105,15 @@ pub fn range(draw: &mut Draw, _: usize) -> Vec<u8> {
     let mut ring = square(side);
     for _ in 0..1 + draw.below(2) {
         let (place, axis) = (draw.below(4), draw.below(2));
-        ring[place][axis] = draw.pick(&[above(), -above(), 1e10, -1e300, f64::MAX, 1e9, -1e9]);
+        ring[place][axis] = draw.pick(&[
+            moved(1e9, 1),
+            moved(-1e9, -1),
+            1e10,
+            -1e300,
+            f64::MAX,
+            1e9,
+            -1e9,
+        ]);
     }
     alone_or_hole(draw, ring, side)
 }

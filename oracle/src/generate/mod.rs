@@ -10,10 +10,13 @@ mod rare;
 mod region_questions;
 mod regions;
 mod shape;
+mod slivers;
+mod turn_questions;
 
 pub use offsets::offset;
 pub use questions::question;
 pub use region_questions::region;
+pub use turn_questions::turning;
 
 use crate::draw::Draw;
 use crate::job::Job;
@@ -92,6 +95,7 @@ const FAMILIES: &[Family] = &[
     family(8, 0, "loaded", rare::loaded),
     family(8, 0, "joined-holes", rare::joined_holes),
     family(40, 30, "known", known::known),
+    family(60, 40, "slivers", slivers::slivers),
 ];
 
 /// Names of the families.

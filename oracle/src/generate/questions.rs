@@ -1,23 +1,14 @@
 //! Questions about outlines from a seed.
 
 use super::shape::{
-    self, compass, dress, mirror, rectangle, reorder, scale, shift, square, turn, Point, Ring,
+    self, compass, dress, mirror, moved, rectangle, reorder, scale, shift, square, turn, Point,
+    Ring,
 };
 use super::{door, outlines, SMALL};
 use crate::answer::ROOM;
 use crate::draw::Draw;
 use crate::job::Job;
 use crate::outlines::{new_outline, numbers_of, Question, Shape};
-
-/// The double above a positive one.
-fn above(x: f64) -> f64 {
-    f64::from_bits(x.to_bits() + 1)
-}
-
-/// A positive double some places away.
-fn beside(draw: &mut Draw, x: f64) -> f64 {
-    f64::from_bits(x.to_bits().wrapping_add_signed(draw.whole(-3, 3)))
-}
 
 /// Numbers that are not finite.
 pub(super) fn not_finite(draw: &mut Draw) -> f64 {
@@ -101,7 +92,7 @@ fn full(draw: &mut Draw) -> Vec<f64> {
     match draw.below(5) {
         0 | 1 if count > 128 => {
             let place = 128 + draw.below(count - 128);
-            ring[place][draw.below(2)] = draw.pick(&[2e9, -above(1e9), 1e300]);
+            ring[place][draw.below(2)] = draw.pick(&[2e9, -moved(1e9, 1), 1e300]);
         }
         2 if count <= 128 => {
             let place = 1 + draw.below(count - 4);
@@ -154,8 +145,8 @@ fn limits(draw: &mut Draw) -> Vec<f64> {
     for _ in 0..draw.below(3) {
         let place = draw.below(ring.len());
         ring[place][draw.below(2)] = draw.pick(&[
-            above(far),
-            -above(far),
+            moved(far, 1),
+            -moved(far, 1),
             f64::from_bits(far.to_bits() - 1),
             f64::MAX,
             -1e300,
@@ -170,7 +161,7 @@ fn limits(draw: &mut Draw) -> Vec<f64> {
 fn nearly_flat(draw: &mut Draw) -> Vec<f64> {
     let long = draw.pick(&[1.0, 3.0, 0.1, 1000.0, 7e5]) * draw.real(1.0, 2.0);
     let part = draw.pick(&[0.0, 0.0, 1.0, 0.999, 1.001, 0.5, 2.0]);
-    let high = beside(draw, 2e-12 * long) * if part == 0.0 { 1.0 } else { part };
+    let high = moved(2e-12 * long, draw.whole(-3, 3)) * if part == 0.0 { 1.0 } else { part };
     let mut ring = vec![
         [0.0, 0.0],
         [long, 0.0],
@@ -360,7 +351,8 @@ pub(super) fn improper(draw: &mut Draw) -> Shape {
         }
         2 | 3 => {
             let place = draw.below(shape.numbers.len());
-            shape.numbers[place] = draw.pick(&[above(1e9), -above(1e9), 1e300, -f64::MAX, 2e9]);
+            shape.numbers[place] =
+                draw.pick(&[moved(1e9, 1), -moved(1e9, 1), 1e300, -f64::MAX, 2e9]);
         }
         4 | 5 => {
             let place = draw.below(shape.numbers.len());

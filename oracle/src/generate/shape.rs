@@ -10,6 +10,19 @@ pub type Point = [f64; 2];
 /// Vertices in their order, not closed.
 pub type Ring = Vec<Point>;
 
+/// A finite number some places away, through zero as well.
+pub fn moved(x: f64, places: i64) -> f64 {
+    let bits = x.abs().to_bits() as i64;
+    let place = if x < 0.0 { -bits } else { bits } + places;
+    let to = f64::from_bits(place.unsigned_abs());
+    let to = if to.is_finite() { to } else { f64::MAX };
+    if place < 0 {
+        -to
+    } else {
+        to
+    }
+}
+
 /// The line of a side, a distance and rings.
 pub fn write(outset: bool, distance: f64, rings: &[Ring]) -> Vec<u8> {
     Job {

@@ -21,14 +21,21 @@ choose-requires-3 c κs = search needs
 
 returns-3 : tie.Need-returns-3
 returns-3 c =
-    beside-south _ _ _ _ _ (c .before .before .before .before .before .before .before .before .before .before .before .before .choose .ensures) (c .before .before .before .before .before .before .before .before .before .before .if1 .left) _ (c .before .before .before .before .before .before .before .choose2 .ensures) (c .before .before .before .before .before .if2 .left) _ (c .before .before .choose3 .ensures) (c .if3 .taken)
+    let east = c .before .before .before .before .before in
+    let west = east .before .before .before .before .before in
+    beside-south _ _ _ _ _ (west .before .before .choose .ensures) (west .if1 .left) _ (east .before .before .choose2 .ensures) (east .if2 .left) _
+    (c .before .before .choose3 .ensures) (c .if3 .taken)
 
 choose-requires-4 : tie.Need-choose-requires-4
 choose-requires-4 c κs = search needs
 
 returns-4 : tie.Need-returns-4
 returns-4 c =
-    beside-north _ _ _ _ _ (c .before .before .before .before .before .before .before .before .before .before .before .before .before .before .before .before .choose .ensures) (c .before .before .before .before .before .before .before .before .before .before .before .before .before .before .if1 .left) _ (c .before .before .before .before .before .before .before .before .before .before .before .choose2 .ensures) (c .before .before .before .before .before .before .before .before .before .if2 .left) _ (c .before .before .before .before .before .before .choose3 .ensures) (c .before .before .before .before .if3 .left) _ (c .before .choose4 .ensures)
+    let south = c .before .before .before .before in
+    let east = south .before .before .before .before .before in
+    let west = east .before .before .before .before .before in
+    beside-north _ _ _ _ _ (west .before .before .choose .ensures) (west .if1 .left) _ (east .before .before .choose2 .ensures) (east .if2 .left) _
+    (south .before .before .choose3 .ensures) (south .if3 .left) _ (c .before .choose4 .ensures)
 
 pub beside-spec : {M : Type 1} → statement M
 beside-spec =

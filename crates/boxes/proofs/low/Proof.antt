@@ -1,4 +1,6 @@
 -- `boxes::low` meets its contract. Assumes nothing.
+use mathlib.Core.Path.{sym, subst}
+use lib.Dec.{T}
 use Rattle.boxes.specs.Quick
 use borrow.Author.Needs.{needs}
 use Rattle.boxes.proofs.low.Statement.{statement}
@@ -10,9 +12,17 @@ choose-requires c κs = search needs
 choose-requires-2 : tie.Need-choose-requires-2
 choose-requires-2 c κs = search needs
 
+-- the numbers of a parameter are doubles
 returns : tie.Need-returns
 unfolding Quick.low Quick.lesser
-returns c = cc
+returns c =
+    let g = c .before .before .before .before .before .before .good in (
+      cc,
+      (
+        record { east-double = subst T (sym (g .0 .1 .1 .0 .1)) tt; north-double = subst T (sym (g .0 .1 .1 .1 .0 .1)) tt },
+        record { east-double = subst T (sym (g .1 .0 .1 .1 .0 .1)) tt; north-double = subst T (sym (g .1 .0 .1 .1 .1 .0 .1)) tt },
+      ),
+    )
 
 pub low-spec : {M : Type 1} → statement M
 low-spec = tie.close (tie.spec choose-requires choose-requires-2 returns)

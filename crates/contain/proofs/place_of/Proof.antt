@@ -33,11 +33,14 @@ add-k c = search needs
 beside-requires : tie.Need-beside-requires Inv-loop μ-loop
 beside-requires c κs = search needs
 
-on-edge-requires : tie.Need-on-edge-requires Inv-loop μ-loop
-on-edge-requires c κs = search needs
+on-segment-requires : tie.Need-on-segment-requires Inv-loop μ-loop
+on-segment-requires c κs = search needs
 
 returns : tie.Need-returns Inv-loop μ-loop
-returns c = on-boundary _ _ _ _ _ _ _ _ (c .before .before .before .before .before .before .loop .inv .1 ∙ start-edge _ _ _ (c .before .before .before .before .before .loop-test .taken)) (c .before .before .before .before .edge-end .ensures) (c .before .before .before .before .before .loop-test .taken) (c .before .before .before .before .before .before .loop .inv .2) (c .before .on-edge .ensures) (c .if2 .taken)
+returns c =
+    let v = c .before .before .before .before .before .before .loop .inv in
+    let t = c .before .before .before .before .before .loop-test .taken in
+    on-boundary _ _ _ _ _ _ _ _ (v .1 ∙ start-edge _ _ _ t) (c .before .before .before .before .edge-end .ensures) t (v .2) (c .before .on-segment .ensures) (c .if2 .taken)
 
 passes-requires : tie.Need-passes-requires Inv-loop μ-loop
 passes-requires c κs = search needs
@@ -46,23 +49,29 @@ loop-less : tie.Need-loop-less Inv-loop μ-loop
 loop-less c = search needs
 
 loop-again : tie.Need-loop-again Inv-loop μ-loop
-loop-again c = (
-  search needs,
-  c .before .before .before .before .before .edge-end .ensures ∙ start-next _ _ _,
-  goes-on _ _ _ _ _ (c .before .before .before .before .before .before .before .loop .inv .2) (counted _ _ _ _ _ _ _ (c .before .before .before .before .before .before .before .loop .inv .1 ∙ start-edge _ _ _ (c .before .before .before .before .before .before .loop-test .taken)) (c .before .before .before .before .before .edge-end .ensures) _ _ (c .before .before .on-edge .ensures) (c .before .if2 .left) (c .passes .ensures)),
-  c .before .before .before .before .before .before .before .loop .inv .3,
-)
+loop-again c =
+    let v = c .before .before .before .before .before .before .before .loop .inv in
+    let a = v .1 ∙ start-edge _ _ _ (c .before .before .before .before .before .before .loop-test .taken) in
+    let b = c .before .before .before .before .before .edge-end .ensures in (
+      search needs,
+      b ∙ start-next _ _ _,
+      goes-on _ _ _ _ _ (v .2) (counted _ _ _ _ _ _ _ a b _ _ (c .before .before .on-segment .ensures) (c .before .if2 .left) (c .passes .ensures)),
+      v .3,
+    )
 
 loop-less-2 : tie.Need-loop-less-2 Inv-loop μ-loop
 loop-less-2 c = search needs
 
 loop-again-2 : tie.Need-loop-again-2 Inv-loop μ-loop
-loop-again-2 c = (
-  search needs,
-  c .before .before .edge-end .ensures ∙ start-next _ _ _,
-  goes-on _ _ _ _ _ (c .before .before .before .before .loop .inv .2) (left-out _ _ _ _ _ _ _ (c .before .before .before .before .loop .inv .1 ∙ start-edge _ _ _ (c .before .before .before .loop-test .taken)) (c .before .before .edge-end .ensures) _ (c .before .beside .ensures) (not-false _ (c .if1 .left))),
-  c .before .before .before .before .loop .inv .3,
-)
+loop-again-2 c =
+    let v = c .before .before .before .before .loop .inv in
+    let a = v .1 ∙ start-edge _ _ _ (c .before .before .before .loop-test .taken) in
+    let b = c .before .before .edge-end .ensures in (
+      search needs,
+      b ∙ start-next _ _ _,
+      goes-on _ _ _ _ _ (v .2) (left-out _ _ _ _ _ _ _ a b _ (c .before .beside .ensures) (not-false _ (c .if1 .left))),
+      v .3,
+    )
 
 choose-requires : tie.Need-choose-requires Inv-loop μ-loop
 choose-requires c κs = search needs
@@ -82,7 +91,7 @@ place-of-spec =
     edge-end-requires
     add-k
     beside-requires
-    on-edge-requires
+    on-segment-requires
     returns
     passes-requires
     loop-less

@@ -29,7 +29,12 @@ meets-edge-requires : tie.Need-meets-edge-requires Inv-loop μ-loop
 meets-edge-requires c κs = search needs
 
 returns : tie.Need-returns Inv-loop μ-loop
-returns c = sym (ring-met-at _ _ _ _ _ (c .before .before .before .before .before .loop .inv .1) (c .before .before .before .before .loop-test .taken) (edge-met _ _ _ _ _ _ _ (c .before .before .before .vertex-at .ensures) (c .before .before .edge-end .ensures) (c .before .meets-edge .ensures) (c .if1 .taken)))
+returns c =
+    let a = c .before .before .before .vertex-at .ensures in
+    let b = c .before .before .edge-end .ensures in
+    sym
+    (ring-met-at _ _ _ _ _ (c .before .before .before .before .before .loop .inv .1) (c .before .before .before .before .loop-test .taken)
+    (edge-met _ _ _ _ _ _ _ a b (c .before .meets-edge .ensures) (c .if1 .taken)))
 
 add-k : tie.Need-add-k Inv-loop μ-loop
 add-k c = search needs
@@ -38,7 +43,12 @@ loop-less : tie.Need-loop-less Inv-loop μ-loop
 loop-less c = search needs
 
 loop-again : tie.Need-loop-again Inv-loop μ-loop
-loop-again c = (search needs, ring-not-met _ _ _ _ _ (c .before .before .before .before .before .loop .inv .1) (edge-met _ _ _ _ _ _ _ (c .before .before .before .vertex-at .ensures) (c .before .before .edge-end .ensures) (c .before .meets-edge .ensures) (c .if1 .left)))
+loop-again c =
+    let a = c .before .before .before .vertex-at .ensures in
+    let b = c .before .before .edge-end .ensures in (
+      search needs,
+      ring-not-met _ _ _ _ _ (c .before .before .before .before .before .loop .inv .1) (edge-met _ _ _ _ _ _ _ a b (c .before .meets-edge .ensures) (c .if1 .left)),
+    )
 
 returns-2 : tie.Need-returns-2 Inv-loop μ-loop
 returns-2 c = sym (ring-none-met _ _ _ _ _ (c .before .loop .inv .0) (c .loop-test .left) (c .before .loop .inv .1))

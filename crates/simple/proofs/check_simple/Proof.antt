@@ -1,21 +1,22 @@
 -- `simple::check_simple` meets its contract. Assumes nothing.
 use Prim.Native.Nat.{_≤_, _<_, _+_, _-_}
-use mathlib.Core.Path.{_≡_, refl, ap, _∙_}
+use mathlib.Core.Path.{_≡_, refl, _∙_}
 use Rattle.loops.specs.Loop.{rounds}
 use Rattle.loops.proofs.Laws.{no-round}
-use Rattle.ring.specs.Ring.{stored-at}
 use Rattle.simple.specs.declared.Crossing.the-variants.{Simple}
 use Rattle.simple.specs.Simple.{edge-step}
-use Rattle.simple.proofs.Pairs.{Row, row-begins, row-goes-on, row-closes, row-ends, row-none, none-found, found-next, found-far, found-last}
+use Rattle.simple.proofs.Pairs.{Row, read-at, bound, row-begins, row-goes-on, row-closes, row-ends, row-none, none-found, found-next, found-far, found-last}
 use borrow.Author.Needs.{needs}
+use borrow.Author.Tests.{not-false}
 use Rattle.simple.proofs.check_simple.Statement.{statement}
 use Rattle.simple.proofs.check_simple.Tie as tie
 
 abbrev Inv-loop : tie.InvT-loop
-Inv-loop ps n back found₀ i a1 a2 b1₀ l h row stop d₀ k₀ found b1 d k = (n < 18446744073709551616) × (i + 1 < n) × (k ≤ n - (i + 1)) × (stop ≤ n - (i + 1)) × (found ≡ Simple) × Row ps n back i a1 a2 l h stop k b1 d
+Inv-loop ps n back found₀ i a1 a2 b1₀ l h row stop k₀ found b1 k =
+    (n < 18446744073709551616) × (i + 1 < n) × (k ≤ n - (i + 1)) × (stop ≤ n - (i + 1)) × (found ≡ Simple) × Row ps n back i a1 a2 l h stop k b1
 
 abbrev μ-loop : tie.MeasureT-loop
-μ-loop ps n back found₀ i a1 a2 b1₀ l h row stop d₀ k₀ found b1 d k = n - k
+μ-loop ps n back found₀ i a1 a2 b1₀ l h row stop k₀ found b1 k = n - k
 
 abbrev Inv-pairs : tie.InvT-pairs
 Inv-pairs ps n back found₀ i₀ found i = (n < 18446744073709551616) × (i ≤ n - 1) × (found ≡ Simple) × (rounds (edge-step ps n back) i Simple ≡ Simple)
@@ -50,8 +51,8 @@ stored-at-requires-3 c κs = search needs
 folds-back-requires : tie.Need-folds-back-requires Inv-loop μ-loop Inv-pairs μ-pairs
 folds-back-requires c κs = search needs
 
-add-t23 : tie.Need-add-t23 Inv-loop μ-loop Inv-pairs μ-pairs
-add-t23 c = search needs
+add-t22 : tie.Need-add-t22 Inv-loop μ-loop Inv-pairs μ-pairs
+add-t22 c = search needs
 
 low-requires : tie.Need-low-requires Inv-loop μ-loop Inv-pairs μ-pairs
 low-requires c κs = search needs
@@ -71,15 +72,16 @@ sub-choose c = search needs
 choose-requires : tie.Need-choose-requires Inv-loop μ-loop Inv-pairs μ-pairs
 choose-requires c κs = search needs
 
-orient-requires : tie.Need-orient-requires Inv-loop μ-loop Inv-pairs μ-pairs
-orient-requires c κs = search needs
-
 loop-holds : tie.Need-loop-holds Inv-loop μ-loop Inv-pairs μ-pairs
 loop-holds c =
-    let r = row-begins _ _ _ _ _ _ _ _ _ _ _ _ (search needs) (c .before .before .before .before .before .folds-back .ensures) (c .before .before .before .before .if2 .left) (c .before .before .before .before .before .before .before .before .before .before .stored-at .ensures)
-    (c .before .before .before .before .before .before .before .before .stored-at2 .ensures ∙ ap (stored-at _ _ _) (c .before .before .before .before .before .before .before .before .before .following .ensures)) (c .before .before .before .low .ensures) (c .before .before .high .ensures) (c .before .choose .ensures)
-    (c .before .before .before .before .before .before .stored-at3 .ensures ∙ ap (stored-at _ _ _) (c .before .before .before .before .before .before .before .following2 .ensures)) (c .orient .ensures) in
-    (c .before .before .before .before .before .before .before .before .before .before .before .before .before .pairs .inv .0, search needs, r .within, r .bound, c .before .before .before .before .before .before .before .before .before .before .before .before .before .pairs .inv .2, r)
+    let p = c .before .before .before .before .before .before .before .before .before .before .before .before .pairs .inv in
+    let a2 = read-at _ _ _ (c .before .before .before .before .before .before .before .stored-at2 .ensures) (c .before .before .before .before .before .before .before .before .following .ensures) in
+    let b1 = read-at _ _ _ (c .before .before .before .before .before .stored-at3 .ensures) (c .before .before .before .before .before .before .following2 .ensures) in
+    let a1 = c .before .before .before .before .before .before .before .before .before .stored-at .ensures in
+    let r =
+    row-begins _ _ _ _ _ _ _ _ _ _ _ (search needs) (c .before .before .before .before .folds-back .ensures) (c .before .before .before .if2 .left) a1 a2
+    (c .before .before .low .ensures) (c .before .high .ensures) (c .choose .ensures) b1 in
+    (p .0, search needs, r .within, bound _ _ _ _ _ _ _ _ _ _ _ r, p .2, r)
 
 add-j : tie.Need-add-j Inv-loop μ-loop Inv-pairs μ-pairs
 add-j c = search needs
@@ -93,23 +95,38 @@ following-requires-3 c κs = search needs
 stored-at-requires-4 : tie.Need-stored-at-requires-4 Inv-loop μ-loop Inv-pairs μ-pairs
 stored-at-requires-4 c κs = search needs
 
-orient-requires-2 : tie.Need-orient-requires-2 Inv-loop μ-loop Inv-pairs μ-pairs
-orient-requires-2 c κs = search needs
-
-segments-meet-requires : tie.Need-segments-meet-requires Inv-loop μ-loop Inv-pairs μ-pairs
-segments-meet-requires c κs = (c .before .before .before .before .loop .inv .5 .least, (c .before .before .before .before .loop .inv .5 .most, (c .before .before .before .before .loop .inv .5 .turned, c .orient2 .ensures)))
-
 add-k : tie.Need-add-k Inv-loop μ-loop Inv-pairs μ-pairs
 add-k c = search needs
+
+passed-over-requires : tie.Need-passed-over-requires Inv-loop μ-loop Inv-pairs μ-pairs
+passed-over-requires c κs = search needs
+
+segments-meet-requires : tie.Need-segments-meet-requires Inv-loop μ-loop Inv-pairs μ-pairs
+segments-meet-requires c κs = search needs
 
 loop-less : tie.Need-loop-less Inv-loop μ-loop Inv-pairs μ-pairs
 loop-less c = search needs
 
 loop-again : tie.Need-loop-again Inv-loop μ-loop Inv-pairs μ-pairs
 loop-again c =
-    let r = row-goes-on _ _ _ _ _ _ _ _ _ _ _ _ (c .before .before .before .before .before .before .loop .inv .5) _ _ _ (search needs) (c .before .before .before .stored-at4 .ensures ∙ ap (stored-at _ _ _) (c .before .before .before .before .following3 .ensures))
-    (c .before .before .orient2 .ensures) (c .before .segments-meet .ensures) (c .if3 .left) in
-    (c .before .before .before .before .before .before .loop .inv .0, c .before .before .before .before .before .before .loop .inv .1, r .within, c .before .before .before .before .before .before .loop .inv .3, c .before .before .before .before .before .before .loop .inv .4, r)
+    let at = c .before .before .before in
+    let v = at .before .before .before .before .loop .inv in
+    let b2 = read-at _ _ _ (at .before .stored-at4 .ensures) (at .before .before .following3 .ensures) in
+    let r = row-goes-on _ _ _ _ _ _ _ _ _ _ _ (v .5) _ _ (at .before .before .before .loop-test .taken) b2 (c .before .segments-meet .ensures) (c .if4 .left) in
+    (v .0, v .1, r .within, v .3, v .4, r)
+
+loop-less-2 : tie.Need-loop-less-2 Inv-loop μ-loop Inv-pairs μ-pairs
+loop-less-2 c = search needs
+
+-- an edge that is passed over does not meet
+loop-again-2 : tie.Need-loop-again-2 Inv-loop μ-loop Inv-pairs μ-pairs
+loop-again-2 c =
+    let at = c .before in
+    let v = at .before .before .before .before .loop .inv in
+    let b2 = read-at _ _ _ (at .before .stored-at4 .ensures) (at .before .before .following3 .ensures) in
+    let none = at .passed-over .ensures .1 (not-false _ (c .if3 .left)) _ _ (v .5 .first) (v .5 .second) (v .5 .least) (v .5 .most) in
+    let r = row-goes-on _ _ _ _ _ _ _ _ _ _ _ (v .5) _ _ (at .before .before .before .loop-test .taken) b2 refl none in
+    (v .0, v .1, r .within, v .3, v .4, r)
 
 add-i : tie.Need-add-i Inv-loop μ-loop Inv-pairs μ-pairs
 add-i c = search needs
@@ -127,36 +144,44 @@ pairs-less : tie.Need-pairs-less Inv-loop μ-loop Inv-pairs μ-pairs
 pairs-less c = search needs
 
 pairs-again : tie.Need-pairs-again Inv-loop μ-loop Inv-pairs μ-pairs
-pairs-again c = (
-  c .before .before .before .before .loop .inv .0,
-  search needs,
-  c .before .before .before .before .loop .inv .4,
-  row-none _ _ _ _ (c .before .before .before .before .before .before .before .before .before .before .before .before .before .before .before .before .before .before .pairs .inv .3)
-      (row-closes _ _ _ _ _ _ _ _ _ _ _ _ (c .before .before .before .before .loop .inv .5) _ (c .before .before .before .loop-test .left) (c .before .before .if4 .taken) (c .before .folds-back2 .ensures) (c .if5 .left)),
-)
+pairs-again c =
+    let v = c .before .before .before .before .loop .inv in
+    let p = c .before .before .before .before .before .before .before .before .before .before .before .before .before .before .before .before .before .pairs .inv in
+    let none = row-closes _ _ _ _ _ _ _ _ _ _ _ (v .5) _ (c .before .before .before .loop-test .left) (c .before .before .if5 .taken) (c .before .folds-back2 .ensures) (c .if6 .left) in
+    (v .0, search needs, v .4, row-none _ _ _ _ (p .3) none)
 
 pairs-less-2 : tie.Need-pairs-less-2 Inv-loop μ-loop Inv-pairs μ-pairs
 pairs-less-2 c = search needs
 
 pairs-again-2 : tie.Need-pairs-again-2 Inv-loop μ-loop Inv-pairs μ-pairs
 pairs-again-2 c =
-    (c .before .before .loop .inv .0, search needs, c .before .before .loop .inv .4, row-none _ _ _ _ (c .before .before .before .before .before .before .before .before .before .before .before .before .before .before .before .before .pairs .inv .3) (row-ends _ _ _ _ _ _ _ _ _ _ _ _ (c .before .before .loop .inv .5) (c .if4 .left)))
+    let v = c .before .before .loop .inv in
+    let p = c .before .before .before .before .before .before .before .before .before .before .before .before .before .before .before .pairs .inv in
+    (v .0, search needs, v .4, row-none _ _ _ _ (p .3) (row-ends _ _ _ _ _ _ _ _ _ _ _ (v .5) (c .if5 .left)))
 
 returns : tie.Need-returns Inv-loop μ-loop Inv-pairs μ-pairs
-returns c = c .before .before .pairs .inv .2 ∙ none-found _ _ _ _ (c .before .before .pairs .inv .1) (search needs) (c .before .before .pairs .inv .3)
+returns c = let p = c .before .before .pairs .inv in p .2 ∙ none-found _ _ _ _ (p .1) (search needs) (p .3)
 
 returns-2 : tie.Need-returns-2 Inv-loop μ-loop Inv-pairs μ-pairs
 returns-2 c =
-    found-next _ _ _ _ _ _ _ _ (c .before .before .before .before .before .before .before .before .before .pairs .inv .3) (search needs) (c .before .before .before .before .before .before .stored-at .ensures) (c .before .before .before .before .stored-at2 .ensures ∙ ap (stored-at _ _ _) (c .before .before .before .before .before .following .ensures)) (c .before .before .stored-at3 .ensures ∙ ap (stored-at _ _ _) (c .before .before .before .following2 .ensures)) (c .before .folds-back .ensures) (c .if2 .taken)
+    let p = c .before .before .before .before .before .before .before .before .before .pairs .inv in
+    let a2 = read-at _ _ _ (c .before .before .before .before .stored-at2 .ensures) (c .before .before .before .before .before .following .ensures) in
+    let b1 = read-at _ _ _ (c .before .before .stored-at3 .ensures) (c .before .before .before .following2 .ensures) in
+    found-next _ _ _ _ _ _ _ _ (p .3) (search needs) (c .before .before .before .before .before .before .stored-at .ensures) a2 b1 (c .before .folds-back .ensures) (c .if2 .taken)
 
 returns-3 : tie.Need-returns-3 Inv-loop μ-loop Inv-pairs μ-pairs
 returns-3 c =
-    found-far _ _ _ _ _ _ _ _ _ _ _ _ (c .before .before .before .before .before .before .loop .inv .5) (c .before .before .before .before .before .before .before .before .before .before .before .before .before .before .before .before .before .before .before .before .pairs .inv .3) (search needs) _ _ (c .before .before .before .before .before .loop-test .taken)
-    (c .before .before .before .stored-at4 .ensures ∙ ap (stored-at _ _ _) (c .before .before .before .before .following3 .ensures)) (c .before .segments-meet .ensures) (c .if3 .taken)
+    let at = c .before .before .before in
+    let v = at .before .before .before .before .loop .inv in
+    let p = at .before .before .before .before .before .before .before .before .before .before .before .before .before .before .before .before .before .pairs .inv in
+    let b2 = read-at _ _ _ (at .before .stored-at4 .ensures) (at .before .before .following3 .ensures) in
+    found-far _ _ _ _ _ _ _ _ _ _ _ (v .5) (p .3) (search needs) _ _ (at .before .before .before .loop-test .taken) b2 (c .before .segments-meet .ensures) (c .if4 .taken)
 
 returns-4 : tie.Need-returns-4 Inv-loop μ-loop Inv-pairs μ-pairs
 returns-4 c =
-    found-last _ _ _ _ _ _ _ _ _ _ _ _ (c .before .before .before .before .loop .inv .5) (c .before .before .before .before .before .before .before .before .before .before .before .before .before .before .before .before .before .before .pairs .inv .3) (search needs) _ (c .before .before .before .loop-test .left) (c .before .before .if4 .taken) (c .before .folds-back2 .ensures) (c .if5 .taken)
+    let v = c .before .before .before .before .loop .inv in
+    let p = c .before .before .before .before .before .before .before .before .before .before .before .before .before .before .before .before .before .pairs .inv in
+    found-last _ _ _ _ _ _ _ _ _ _ _ (v .5) (p .3) (search needs) _ (c .before .before .before .loop-test .left) (c .before .before .if5 .taken) (c .before .folds-back2 .ensures) (c .if6 .taken)
 
 pub check-simple-spec : {M : Type 1} → statement M
 check-simple-spec =
@@ -175,24 +200,25 @@ check-simple-spec =
     following-requires-2
     stored-at-requires-3
     folds-back-requires
-    add-t23
+    add-t22
     low-requires
     high-requires
     add-row
     sub-row
     sub-choose
     choose-requires
-    orient-requires
     loop-holds
     add-j
     add-j-2
     following-requires-3
     stored-at-requires-4
-    orient-requires-2
-    segments-meet-requires
     add-k
+    passed-over-requires
+    segments-meet-requires
     loop-less
     loop-again
+    loop-less-2
+    loop-again-2
     add-i
     folds-back-requires-2
     add-t28

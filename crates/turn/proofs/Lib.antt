@@ -1,0 +1,12 @@
+pub mod Sums
+pub mod Walking
+pub mod Products
+pub mod Spread
+pub mod Totals
+pub mod Places
+pub mod Sign
+pub mod Ranks
+pub mod Filter
+pub mod Told
+pub mod Laws
+pub mod Examples

@@ -1,0 +1,5 @@
+pub mod Turns
+pub mod Digits
+pub mod Filters
+pub mod Laws
+pub mod Examples
