@@ -2,6 +2,7 @@
  * Prints one line a function and ends with status 0, or prints what failed. */
 #include <lizardwire.h>
 
+#include <float.h>
 #include <math.h>
 #include <stdio.h>
 #include <string.h>
@@ -51,6 +52,11 @@ static const double twice[] = {0, 0, 4, 0, 4, 0, 0, 4};
 static const double not_finite[] = {0, 0, 4, 0, 4, NAN};
 static const double far_off[] = {0, 0, 1e9, 0, 0, 1000000000.0000001};
 static const double widest[] = {0, 0, 1e9, 0, 0, 1e9};
+/* Almost on a line: rounded turns refused the first, named the edges 0 and 3 of the second, and accepted the third. */
+static const double beside[] = {2.6, 0.6, 0.1, 1.6, 1.5, 1.7, 1.85, 0.9};
+static const double crossed[] = {0.8, 0.3, 1.4, 3, 1.6, 1.2, 1.2, 2.1};
+static const double touching[] = {0.1, 0, 0.2, 0, 0.2, 0.1, 0.4, 0.3};
+static const double slope[] = {0, 0, 4, 4, 0, 4};
 
 /* A ring of 129 vertices: a comb with its back. */
 static double many[258];
@@ -276,6 +282,94 @@ static void test_job_line(void)
     CHECK(a.refusal == 20 && a.count == strlen(ok) && bytes[0] == '#');
 }
 
+static int place(const double *outline, size_t count, double east, double north)
+{
+    LwPlace a = lw_contains(outline, count, east, north);
+    return a.refusal == 0 ? (int)a.place : -1;
+}
+
+static void region_is(const double *numbers, size_t count, const size_t *rings, size_t how_many, size_t refusal, size_t second)
+{
+    LwRegion a = lw_region(numbers, count, rings, how_many, fresh(), ROOM);
+    CHECK(a.refusal == refusal && a.rings == (refusal ? 0 : how_many));
+    CHECK(a.ring == 0 && a.first == 0 && a.second == second && a.value == 0);
+    CHECK(refusal ? untouched() : lent[count] == MARK && lent[count - 1] != MARK);
+}
+
+/* Each of these is told otherwise with rounded turns: docs/DIFFERENCES.md has the rows, and oracle/tests/rounded.rs both answers. */
+static void test_exact_turns(void)
+{
+    static const struct {
+        double ring[6], east, north;
+        int place;
+    } points[] = {
+        {{0.1, 0.4, 0.2, 0.4, 0.3, 0.2}, 0.2, 0.3, LW_INSIDE},
+        {{0, 0.4, 0.3, 0.1, 0.3, 0}, 0.2, 0.2, LW_OUTSIDE},
+        {{0.1, 0.2, 0.1, 0.4, 0.4, 0.7}, 0.2, 0.5, LW_ON_BOUNDARY},
+        {{0.1, 0.2, 0, 0.2, 0.7, 0.6}, 0.4, 0.4, LW_ON_BOUNDARY},
+    };
+    static const size_t two[] = {3, 3}, of_four[] = {4, 3}, three[] = {4, 3, 3};
+    static const double within[] = {0.7, 0.4, 0, 0.6, 0.6, 0, 0.1, 0.5, 0.5, 0.1, 0.5, 0.4};
+    static const double touched[] = {-0.09, 0.02, -0.72, -0.12, -0.54, -0.93, 0.09, -0.79, -0.45, -0.06, -0.48, -0.35, -0.3, -0.31};
+    static const double apart[] = {0, 0, 1.1, 0, 1.1, 1.1, 0, 1.1, 0.7, 0.9, 0.4, 0.6, 0.8, 0.2, 0.2, 0.9, 0.2, 0.8, 0.6, 0.3};
+    static const double joined[] = {0, 0, 1.9, 0, 1.9, 1.9, 0, 1.9, 1.5, 1.7, 0.3, 0.9, 0.4, 1.2, 1.6, 1.5, 0.9, 1.3, 1.7, 0.5};
+    LwOutline a = lw_check(beside, COUNT(beside));
+    CHECK(a.refusal == 0 && a.count == 4);
+    bad_outline(crossed, COUNT(crossed), 9, 0, 2, 0);
+    bad_outline(touching, COUNT(touching), 9, 1, 3, 0);
+    for (size_t k = 0; k < COUNT(points); k++) {
+        CHECK(lw_outline(points[k].ring, 6, fresh(), ROOM).refusal == 0);
+        CHECK(place(lent, 6, points[k].east, points[k].north) == points[k].place);
+    }
+    region_is(within, COUNT(within), two, 2, 0, 0);
+    region_is(touched, COUNT(touched), of_four, 2, 11, 0);
+    region_is(apart, COUNT(apart), three, 3, 0, 0);
+    region_is(joined, COUNT(joined), three, 3, 12, 1);
+}
+
+/* A square, or a hole, with one number put in the place of another, is refused. */
+static void with_number(size_t k, double number)
+{
+    double given[8], both[16];
+    size_t finite = isfinite(number) != 0;
+    memcpy(given, square, sizeof given);
+    memcpy(both, pane, sizeof both);
+    given[k] = both[8 + k] = number;
+    bad_outline(given, 8, finite ? 5 : 2, finite ? 0 : k, 0, finite ? number : 0);
+    LwRegion a = lw_region(both, 16, pane_rings, 2, fresh(), ROOM);
+    CHECK(a.refusal == (finite ? 5 : 2) && a.ring == finite && a.first == (finite ? 0 : 8 + k) && a.value == (finite ? number : 0));
+    LwRegionOffset b = lw_region_inset(both, 16, pane_rings, 2, 1, fresh(), ROOM);
+    CHECK(b.refusal == (finite ? 5 : 2) && b.ring == finite && b.first == (finite ? 0 : 8 + k) && b.value == (finite ? number : 0));
+    CHECK(lw_contains(given, 8, 2, 2).refusal == 21 && lw_contains(given, 8, NAN, 2).refusal == 21);
+    CHECK(lw_nearest(given, 8, 2, 2).refusal == 21 && lw_area(given, 8).refusal == 21);
+    refused_offset(lw_inset(given, 8, 1, fresh(), ROOM), 21, 0, 0, 0);
+    refused_offset(lw_outset(given, 8, 1, fresh(), ROOM), 21, 0, 0, 0);
+}
+
+/* Numbers that are not finite or too large are refused, 2, 5, 13 and 21, before anything is worked out with them; a point may
+ * be any finite one. Rounded turns would pass all of this. */
+static void test_any_number(void)
+{
+    static const double bad[] = {NAN, INFINITY, -INFINITY, 1e308, -1e308, DBL_MAX, -DBL_MAX};
+    size_t n = COUNT(square);
+    for (size_t k = 0; k < n; k++)
+        with_number(k, bad[k % COUNT(bad)]);
+    for (size_t b = 0; b < 3; b++) {
+        LwPlace a = lw_contains(square, n, bad[b], bad[b]);
+        CHECK(a.refusal == 2 && a.first == 0 && a.place == LW_OUTSIDE);
+        a = lw_contains(square, n, 2, bad[b]);
+        CHECK(a.refusal == 2 && a.first == 1 && a.place == LW_OUTSIDE);
+    }
+    CHECK(lw_region_inset(pane, COUNT(pane), pane_rings, 2, NAN, fresh(), ROOM).refusal == 13 && untouched());
+    CHECK(lw_region_inset(pane, COUNT(pane), pane_rings, 2, DBL_MAX, fresh(), ROOM).refusal == 13 && untouched());
+    for (size_t b = 3; b < COUNT(bad); b++)
+        CHECK(place(square, n, bad[b], 2) == LW_OUTSIDE && place(square, n, 2, bad[b]) == LW_OUTSIDE &&
+              place(slope, COUNT(slope), bad[b], bad[b]) == LW_OUTSIDE && place(slope, COUNT(slope), bad[b], 5e-324) == LW_OUTSIDE);
+    CHECK(place(square, n, 5e-324, 2) == LW_INSIDE && place(square, n, -5e-324, 2) == LW_OUTSIDE);
+    CHECK(place(square, n, 5e-324, 0) == LW_ON_BOUNDARY && place(square, n, 2, -5e-324) == LW_OUTSIDE);
+    CHECK(place(slope, COUNT(slope), 5e-324, 5e-324) == LW_ON_BOUNDARY && place(slope, COUNT(slope), 1e-323, 5e-324) == LW_OUTSIDE);
+}
+
 static void run(const char *name, void (*test)(void))
 {
     int before = checks, failed = failures;
@@ -296,6 +390,8 @@ int main(void)
     run("lw_region", test_region);
     run("lw_region_inset", test_region_inset);
     run("lw_job_line", test_job_line);
+    run("exact turns", test_exact_turns);
+    run("any number", test_any_number);
     if (failures)
         printf("%d of %d checks failed\n", failures, checks);
     return failures != 0;

@@ -5,7 +5,7 @@
  * nothing, keeps nothing between calls, calls nothing of yours, and may be
  * called from any number of threads at once. A job line takes 233 KB of stack,
  * a region's inset 205, an outline's offset 165, the check of a region 59, and
- * anything else less than 1 KB (a KB is 1,000 bytes).
+ * anything else less than 2 KB (a KB is 1,000 bytes).
  *
  * Numbers come as one flat list of doubles, east then north of each vertex.
  * Every bit pattern is allowed in them, NaN too. What a caller owes is what C
@@ -17,6 +17,12 @@
  * is granted. Otherwise it is the number of the first question that was answered
  * with no, the other fields carry what belongs to it, and the lent output is as
  * it was. A granted call changes only the numbers that it writes.
+ *
+ * Whether edges meet is told exactly, with nothing rounded: of an outline that is
+ * accepted, no two edges that are no neighbours share a point. Two that 9 names
+ * share one, or are neighbours that fold back. A point is on the boundary of an
+ * outline if and only if it lies on an edge. Inside or outside, right beside an
+ * edge, is rounded.
  *
  * A ring that an offset by a distance above 0 gives is simple, on the right side
  * and clear of its source, and keeps the distance at each of its vertices but for a
@@ -143,7 +149,8 @@ LwOutline lw_outline(const double *numbers, size_t count, double *out, size_t ou
  * what they are given as it is. 21 is an odd count, fewer than 3 or more than
  * 128 vertices, or a number that is not within +-1e9. */
 
-/* Where does the point lie? Refusals: 21, then 2 of the point (0 east, 1 north). */
+/* Where does the point lie? Any finite point may be asked. The boundary is told
+ * exactly. Refusals: 21, then 2 of the point (0 east, 1 north). */
 LwPlace lw_contains(const double *outline, size_t count, double east, double north);
 
 /* The nearest point of the boundary, and how far it is. Refusals: as lw_contains. */

@@ -1,9 +1,12 @@
-//! `bench`: nanoseconds a call of our `hypot` beside the C library's, and of the questions about outlines, their offsets and regions beside the Rust's. `bench test`: compares our `hypot` with an exact one.
+//! `bench`: nanoseconds a call of our `hypot` beside the C library's, and of the questions about outlines, their offsets and
+//! regions beside the Rust's. `bench slivers`: outlines whose edges lie almost on a line alone. `bench test`: compares our `hypot`
+//! with an exact one.
 mod cases;
 mod exact;
 mod offsets;
 mod outlines;
 mod regions;
+mod slivers;
 
 use cases::{Pair, Random};
 use std::hint::black_box;
@@ -86,17 +89,20 @@ fn main() {
             println!();
             outlines::measure();
             println!();
+            slivers::measure();
+            println!();
             offsets::measure();
             println!();
             regions::measure();
         }
+        Some("slivers") => slivers::measure(),
         Some("test") => {
             let n = compare();
             println!("{n} differences");
             std::process::exit((n > 0) as i32);
         }
         Some(other) => {
-            eprintln!("bench: no mode `{other}`: give none, or `test`");
+            eprintln!("bench: no mode `{other}`: give none, `slivers` or `test`");
             std::process::exit(2);
         }
     }

@@ -7,21 +7,21 @@ use std::time::Instant;
 
 #[repr(C)]
 #[allow(dead_code)]
-struct Outline {
-    refusal: usize,
+pub struct Outline {
+    pub refusal: usize,
     ring: usize,
     first: usize,
     second: usize,
     value: f64,
-    count: usize,
+    pub count: usize,
 }
 
 #[repr(C)]
 #[allow(dead_code)]
-struct Place {
+pub struct Place {
     refusal: usize,
     first: usize,
-    place: usize,
+    pub place: usize,
 }
 
 #[repr(C)]
@@ -41,7 +41,7 @@ extern "C" {
     fn lw_nearest(outline: *const f64, length: usize, east: f64, north: f64) -> Nearest;
 }
 
-fn check(numbers: &[f64]) -> Outline {
+pub fn check(numbers: &[f64]) -> Outline {
     unsafe { lw_check(numbers.as_ptr(), numbers.len()) }
 }
 
@@ -49,7 +49,7 @@ fn outline(numbers: &[f64], out: &mut [f64]) -> Outline {
     unsafe { lw_outline(numbers.as_ptr(), numbers.len(), out.as_mut_ptr(), out.len()) }
 }
 
-fn contains(ring: &[f64], p: (f64, f64)) -> Place {
+pub fn contains(ring: &[f64], p: (f64, f64)) -> Place {
     unsafe { lw_contains(ring.as_ptr(), ring.len(), p.0, p.1) }
 }
 
@@ -107,7 +107,7 @@ fn around(ring: &[f64], count: usize) -> Vec<(f64, f64)> {
     (0..count).map(|_| (within(west, east), within(south, north))).collect()
 }
 
-fn place_of(c: Containment) -> usize {
+pub fn place_of(c: Containment) -> usize {
     match c {
         Containment::Inside => 0,
         Containment::OnBoundary => 1,

@@ -91,6 +91,9 @@ def hypot(x: float, y: float) -> float:
 class Outline:
     """An outline that has passed its check: 3 to 128 vertices, no two edges crossing.
 
+    That is told exactly: no two edges that are no neighbours share a point, however
+    nearly they lie on one line.
+
     The vertices may come in either direction, with the first one repeated at the end
     or not; they are kept counter-clockwise. Raises :class:`Refused` with 2 or 4 to 9.
     """
@@ -126,7 +129,10 @@ class Outline:
         return answer.area
 
     def contains(self, point: PointLike) -> Place:
-        """Where a point lies. Refused with 2 where it is not finite."""
+        """Where a point lies: on the boundary if and only if it lies on an edge, with nothing rounded.
+
+        Refused with 2 where the point is not finite.
+        """
         answer = call("lw_contains", *self._numbers, *_numbers([point]))
         if answer.refusal:
             raise refused(answer)

@@ -17,6 +17,7 @@ import unittest
 from fractions import Fraction
 
 from lizardwire import Answer, Job, Outline, Refused, Region, _library, answer_line, inset
+from tests.exact import units
 from tests.support import PANE, SQUARE, TOP
 
 # 1 in units; what a unit is divided by for a margin, and 1 for a ratio.
@@ -24,16 +25,6 @@ ONE, PARTS, DIGITS = 2 ** 1074, 10 ** 15, 10 ** 24
 
 
 # ---- the judge
-
-def units(number):
-    """A double as a whole number of units, from its bits."""
-    bits, = struct.unpack("<Q", struct.pack("<d", number))
-    field, digits = bits >> 52 & 0x7FF, bits & 2 ** 52 - 1
-    if field == 0x7FF:
-        raise ValueError("not a finite number")
-    size = (2 ** 52 + digits) << field - 1 if field else digits
-    return -size if bits >> 63 else size
-
 
 def promised(one, distance, largest):
     """The margin that is promised, in PARTS of a unit; 0 where that would be below 0."""

@@ -5,7 +5,7 @@ import re
 import unittest
 from fractions import Fraction
 
-from lizardwire import Outline, Refused, inset
+from lizardwire import Outline, Place, Refused, inset
 from tests.support import TOP
 from tests.test_margin import ONE, PARTS, promised, units
 
@@ -72,6 +72,22 @@ class Readme(unittest.TestCase):
         for extent, distance, margin in rows:
             exact = Fraction(promised(ONE, units(float(distance)), units(float(extent))), PARTS * ONE)
             self.assertEqual(exact, 0 if margin == "nothing" else Fraction(margin))
+
+    def test_the_turns(self):
+        rows = re.findall(r"^   \| (\(.*?\)) \| the (outline|point \(.*?\)) \| (.*?) \| (.*?) \|$", self.text, re.M)
+        self.assertEqual(len(rows), 4)
+        for shape, asked, answer, rounded in rows:
+            self.assertNotEqual(answer, rounded)
+            if asked == "outline":
+                try:
+                    Outline(points(shape))
+                    told = "accepted"
+                except Refused as no:
+                    told = f"{no.number}, edges {no.values['first']} and {no.values['second']}"
+            else:
+                place = Outline(points(shape)).contains(points(asked)[0])
+                told = "on the boundary" if place is Place.ON_BOUNDARY else place.name.lower()
+            self.assertEqual(told, answer, shape)
 
     def test_nearer_between_vertices(self):
         shape, distance, corner, gap = re.search(r"(\(0,0\)\S*) inset (\S+) passes (\S+) at ([\d.]+)\.\n", self.text).groups()

@@ -22,7 +22,7 @@ fn room() -> [f64; 2 * crate::VERTICES] {
 /// `slices::inset` or `slices::outset`.
 type Offset = fn(&[f64], f64, &mut [f64]) -> (Result<usize, Refusal>, Events);
 
-/// An outline: 3 to 128 vertices, counter-clockwise, no two edges crossing.
+/// An outline: 3 to 128 vertices, counter-clockwise. No two edges that are no neighbours share a point, which is told exactly.
 #[derive(Debug, Clone, PartialEq)]
 pub struct Outline {
     numbers: Vec<f64>,
@@ -58,7 +58,7 @@ impl Outline {
         slices::area(&self.numbers).expect("a checked outline passes 21")
     }
 
-    /// Where a point lies: 2.
+    /// Where a point lies: 2. It is on the boundary if and only if it lies on an edge, with nothing rounded.
     pub fn contains(&self, point: Point) -> Result<Place, Refusal> {
         slices::contains(&self.numbers, point)
     }

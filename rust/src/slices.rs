@@ -11,7 +11,7 @@ use crate::refusal::Refusal;
 pub enum Place {
     /// Inside the outline.
     Inside,
-    /// On its boundary.
+    /// On its boundary, exactly: it lies on an edge.
     OnBoundary,
     /// Outside it.
     Outside,
