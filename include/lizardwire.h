@@ -3,8 +3,8 @@
  * Link with target/staticlib/liblizardwire_c.a or target/shared/liblizardwire.so
  * (`tools/library` builds both). The library is for x86-64 Linux. It allocates
  * nothing, keeps nothing between calls, calls nothing of yours, and may be
- * called from any number of threads at once. A job line takes 233 KB of stack,
- * a region's inset 205, an outline's offset 165, the check of a region 59, and
+ * called from any number of threads at once. A job line takes 193 KB of stack,
+ * a region's inset 165, an outline's offset 131, the check of a region 59, and
  * anything else less than 2 KB (a KB is 1,000 bytes).
  *
  * Numbers come as one flat list of doubles, east then north of each vertex.

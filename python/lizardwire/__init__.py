@@ -18,13 +18,13 @@ The work is done by the shared library, whose functions are proved. This package
 ordinary Python over it, from 3.9 on, and needs nothing else. ``python -m lizardwire
 --help`` says what it does from the command line.
 """
-from ._library import LibraryMissing, NotInLibrary
+from ._library import LibraryMissing
 from .jobs import Answer, Job, answer_line, read_jobs, write_jobs
 from .refusals import Refused
 from .shapes import Cage, Events, Nearest, Outline, Place, Region, hypot, inset, outset
 
 __all__ = [
-    "Answer", "Cage", "Events", "Job", "LibraryMissing", "Nearest", "NotInLibrary", "Outline", "Place", "Refused",
+    "Answer", "Cage", "Events", "Job", "LibraryMissing", "Nearest", "Outline", "Place", "Refused",
     "Region", "answer_line", "hypot", "inset", "outset", "read_jobs", "write_jobs",
 ]
 __version__ = "0.1.0"

@@ -4,7 +4,7 @@ import os
 import sys
 from typing import BinaryIO, Iterator, List, Optional, Sequence, Tuple
 
-from . import LibraryMissing, NotInLibrary, __version__, svg
+from . import __version__, svg
 from .draw import Item, in_place, picture
 from .jobs import Answer, Job, answer_line, lines
 from .progress import Progress
@@ -262,7 +262,7 @@ def main(arguments: Optional[Sequence[str]] = None) -> int:
         return 1
     except KeyboardInterrupt:
         return 130
-    except (ValueError, LibraryMissing, NotInLibrary, OSError) as error:
+    except (ValueError, OSError) as error:
         complain(str(error))
         return 2
 

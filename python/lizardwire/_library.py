@@ -21,11 +21,7 @@ LINE_BYTES = 16384
 
 
 class LibraryMissing(OSError):
-    """The shared library is not there, or cannot be opened."""
-
-
-class NotInLibrary(NotImplementedError):
-    """This build of the shared library does not have that function."""
+    """The shared library is not there, cannot be opened, or lacks a function of the header."""
 
 
 def _struct(name: str, *fields: Tuple[str, Any]) -> Any:
@@ -91,26 +87,22 @@ def library() -> ctypes.CDLL:
                 "the Lizardwire library was not found. Looked for:\n  " + "\n  ".join(tried)
                 + f"\nBuild it with tools/library, or name the file in {VARIABLE}.")
         try:
-            _loaded = ctypes.CDLL(found[0])
+            opened = ctypes.CDLL(found[0])
         except OSError as error:
             raise LibraryMissing(f"{found[0]} cannot be opened: {error}") from None
+        for name, (result, arguments) in FUNCTIONS.items():
+            try:
+                function = getattr(opened, name)
+            except AttributeError:
+                raise LibraryMissing(f"{found[0]} has no {name}: it is not the library of this package") from None
+            function.restype, function.argtypes = result, arguments
+        _loaded = opened
     return _loaded
-
-
-def has(name: str) -> bool:
-    """Whether the library has a function of that name."""
-    return hasattr(library(), name)
 
 
 def call(name: str, *arguments: Any) -> Any:
     """Calls a function of the library, its types as declared above."""
-    try:
-        function = getattr(library(), name)
-    except AttributeError:
-        raise NotInLibrary(f"this build of the library has no {name}") from None
-    if function.argtypes is None:
-        function.restype, function.argtypes = FUNCTIONS[name]
-    return function(*arguments)
+    return getattr(library(), name)(*arguments)
 
 
 def lent(count: int) -> Any:

@@ -167,17 +167,11 @@ class Answer:
 
 def answer_line(line: bytes) -> bytes:
     """The answer line to a job line, both without line feed. A refused job is an answer, too."""
-    if _library.has("lw_job_line"):
-        out = (ctypes.c_uint8 * _library.LINE_BYTES)()
-        answer = _library.call("lw_job_line", line, len(line), out, len(out))
-        if answer.refusal:
-            raise Refused(answer.refusal, {"needed": answer.count})
-        return ctypes.string_at(out, answer.count)
-    try:
-        job = Job.read(line)
-    except Refused as refusal:
-        return b"no,%d" % refusal.number
-    return job.answer().line().encode()
+    out = (ctypes.c_uint8 * _library.LINE_BYTES)()
+    answer = _library.call("lw_job_line", line, len(line), out, len(out))
+    if answer.refusal:
+        raise Refused(answer.refusal, {"needed": answer.count})
+    return ctypes.string_at(out, answer.count)
 
 
 def lines(stream: BinaryIO) -> Iterator[bytes]:

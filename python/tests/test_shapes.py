@@ -1,4 +1,5 @@
 """Outlines, regions and cages: E1 to E14, bad input, and what a refusal says."""
+import _ctypes
 import math
 import os
 import pickle
@@ -193,6 +194,13 @@ class Finding(unittest.TestCase):
             done = subprocess.run([sys.executable, "-c", code], cwd=folder, env={**environment, "PYTHONPATH": folder},
                                   check=True, capture_output=True, text=True)
             self.assertEqual(done.stdout.split(), [os.path.join(os.path.realpath(folder), "lizardwire", "liblizardwire.so")] * 2)
+
+    @unittest.skipUnless(hasattr(_ctypes, "__file__"), "no other library is at hand")
+    def test_another_library(self):
+        """One that can be opened and lacks a function is told by the function's name."""
+        with mock.patch.dict(os.environ, {"LIZARDWIRE_LIBRARY": _ctypes.__file__}), mock.patch.object(_library, "_loaded", None):
+            with self.assertRaisesRegex(LibraryMissing, "has no lw_hypot"):
+                hypot(3, 4)
 
     def test_not_a_library(self):
         with mock.patch.dict(os.environ, {"LIZARDWIRE_LIBRARY": __file__}), mock.patch.object(_library, "_loaded", None):

@@ -2,7 +2,8 @@
 use mathlib.Core.Path.{_≡_, refl}
 use mathlib.Core.Bool.{true, false, false≢true}
 use Rattle.error.specs.declared.Refusal.{Refusal}
-use Rattle.error.specs.declared.Refusal.the-variants.{Granted, Odd, NotFinite, Lengths, Few, Range, Room, Repeated, Flat, Crossed, ManyHoles, HoleOutside, HolesTouch, Far, Negative, Slots, Collapses, Splits, Unfinished, ManyPieces, Short, Shape, Job}
+use Rattle.error.specs.declared.Refusal.the-variants.{Granted, Odd, NotFinite, Lengths, Few, Range, Room, Repeated, Flat, Crossed, ManyHoles, HoleOutside, HolesTouch, Far, Negative, Slots, Collapses, Splits, Unfinished, ManyPieces}
+use Rattle.error.specs.declared.Refusal.the-variants.{Short, Shape, Job}
 use Rattle.error.specs.Refusals.{values, number, granted}
 
 -- only `Granted` has the number 0

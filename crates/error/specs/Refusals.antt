@@ -1,11 +1,14 @@
--- The refusals: for each case the number and the values that the scope gives it, and which the offset of a piece turns into another. Assumes nothing.
+-- The refusals: for each case the number and the values that the scope gives it, and which the offset of a piece turns into another.
+-- Assumes nothing.
 use Prim.Native.Nat.{ℕ}
 use mathlib.Core.Bool.{Bool, cond, _||_}
 use lib.Dec.{eqb}
 use mathlib.Core.List.{List, [], _∷_}
 use lib.Ieee.{Float}
 use Rattle.error.specs.declared.Refusal.{Refusal}
-use Rattle.error.specs.declared.Refusal.the-variants.{Granted, Odd, NotFinite, Lengths, Few, Range, Room, Repeated, Flat, Crossed, ManyHoles, HoleOutside, HolesTouch, Far, Negative, Slots, Collapses, Splits, Unfinished, ManyPieces, Short, Shape, Job}
+use Rattle.error.specs.declared.Refusal.the-variants.{Granted, Odd, NotFinite, Lengths, Few, Range, Room, Repeated, Flat, Crossed}
+use Rattle.error.specs.declared.Refusal.the-variants.{ManyHoles, HoleOutside, HolesTouch, Far, Negative, Slots, Collapses, Splits}
+use Rattle.error.specs.declared.Refusal.the-variants.{Unfinished, ManyPieces, Short, Shape, Job}
 
 -- what a refusal stands for: the question's number, the ring's number in 4 to 9, the whole numbers and the float that it carries
 pub record Values : Type 0 where
@@ -14,8 +17,8 @@ pub record Values : Type 0 where
   pub wholes : List ℕ
   pub floats : List Float
 
--- 2 the index; 4 the count found; 5 the value; 6 needed and room; 9 the two edges; 10 the holes given; 11 the hole; 12 the two holes; 14, 16, 17 the distance;
--- 15 and 20 what is needed; 18 the events and what remained; 19 the hole pieces needed. `Granted`: nothing is refused.
+-- 2 the index; 4 the count found; 5 the value; 6 needed and room; 9 the two edges; 10 the holes given; 11 the hole; 12 the two holes; 14,
+-- 16, 17 the distance; 15 and 20 what is needed; 18 the events and what remained; 19 the hole pieces needed. `Granted`: nothing is refused.
 unfoldable pub values : Refusal → Values
 values Granted = record { question = 0; ring = []; wholes = []; floats = [] }
 values Odd = record { question = 1; ring = []; wholes = []; floats = [] }

@@ -1,7 +1,7 @@
--- offset.rs, `Edge` and `Front`: a list of 128 edges, linked into rings. A slot that was never taken holds the unused edge, which is not alive. A link that leads out of
--- the list reads the unused edge, and none does. Assumes nothing.
+-- offset.rs, `Edge` and `Front`: a list of 128 edges, linked into rings. A slot that was never taken holds the unused edge, which is not
+-- alive. A link that leads out of the list reads the unused edge, and none does. Assumes nothing.
 use Prim.Native.Nat.{ℕ, _+_}
-use mathlib.Core.Bool.{true, false, cond}
+use mathlib.Core.Bool.{Bool, true, false, cond}
 use mathlib.Core.List.{List}
 use lib.Dec.{ltb, eqb}
 use lib.ListN.{getD, set}
@@ -19,7 +19,7 @@ use Rattle.front.specs.declared.Length.{Length}
 use Rattle.front.specs.declared.Length.the-variants.{NoLength, Long}
 use Rattle.math.specs.Number
 use Rattle.math.specs.Number.{zero-float, one, add, mul}
-use Rattle.loops.specs.Loop.{rounds}
+use Rattle.base.specs.Loop.{rounds}
 use Rattle.front.specs.Lines.{velocity, direction}
 use Rattle.plane.specs.Plane.{sub, dot}
 
@@ -57,18 +57,23 @@ edge f k = cond (ltb k 128) (getD f k blank) unused
 abbrev pub edge-line : Edge → Line
 edge-line e = e .line
 
+-- an edge on the line of another: the only place where what is stored of a line is handed on
+unfoldable pub on-line-of : Edge → ℕ → ℕ → Bool → PlanarPoint → Float → Edge
+on-line-of e previous next alive start since =
+    record { line = e .line; previous = previous; next = next; alive = alive; start = start; since = since }
+
 -- `Front::edge_mut`, one field or two at a time: the edge with another next, previous, start vertex, or dead
 unfoldable pub with-next : Edge → ℕ → Edge
-with-next e k = record { line = e .line; previous = e .previous; next = k; alive = e .alive; start = e .start; since = e .since }
+with-next e k = on-line-of e (e .previous) k (e .alive) (e .start) (e .since)
 
 unfoldable pub with-previous : Edge → ℕ → Edge
-with-previous e k = record { line = e .line; previous = k; next = e .next; alive = e .alive; start = e .start; since = e .since }
+with-previous e k = on-line-of e k (e .next) (e .alive) (e .start) (e .since)
 
 unfoldable pub with-start : Edge → PlanarPoint → Float → Edge
-with-start e p t = record { line = e .line; previous = e .previous; next = e .next; alive = e .alive; start = p; since = t }
+with-start e p t = on-line-of e (e .previous) (e .next) (e .alive) p t
 
 unfoldable pub dead : Edge → Edge
-dead e = record { line = e .line; previous = e .previous; next = e .next; alive = false; start = e .start; since = e .since }
+dead e = on-line-of e (e .previous) (e .next) false (e .start) (e .since)
 
 -- and the front with that edge in its slot
 unfoldable pub set-next : List Edge → ℕ → ℕ → List Edge
@@ -158,5 +163,6 @@ edge-length f slot t = length-from f (edge f slot) t (vertex f slot t)
 
 -- opens every definition above, for a proof that computes with all of them
 unfoldable pub open-edges : Unit {0}
-unfolding edge with-next with-previous with-start dead set-next set-previous set-start kill unlinked remove round-on round-step ring-len moved-by vertex-by vertex-of vertex altered stalled anchor-at anchor then-remove collapse length-to length-from edge-length
+unfolding edge on-line-of with-next with-previous with-start dead set-next set-previous set-start kill unlinked remove round-on round-step
+    ring-len moved-by vertex-by vertex-of vertex altered stalled anchor-at anchor then-remove collapse length-to length-from edge-length
 open-edges = tt

@@ -12,7 +12,7 @@ use Rattle.front.specs.declared.Vertex.{Vertex}
 use Rattle.front.specs.declared.Vertex.the-variants.{NoVertex, Moving}
 use Rattle.front.specs.declared.Walk.{Walk}
 use Rattle.error.specs.Refusals.{granted}
-use Rattle.loops.specs.Loop.{rounds}
+use Rattle.base.specs.Loop.{rounds}
 use Rattle.math.specs.Number.{finite, add, zero-float}
 use Rattle.ring.specs.Store.{store-vertex}
 use Rattle.front.specs.Edges.{edge, vertex}
@@ -25,7 +25,14 @@ walk-lost w = record { at = w .at; seen = w .seen; points = w .points; count = w
 unfoldable pub walk-on : ℕ → ℕ → PlanarPoint → Walk → Walk
 walk-on first next p w =
     cond (finite (p .east) && finite (p .north))
-    (record { at = next; seen = set (w .seen) (w .at) true; points = store-vertex (w .points) (w .count) p; count = w .count + 1; closed = eqb next first; lost = false })
+    (record {
+      at = next;
+      seen = set (w .seen) (w .at) true;
+      points = store-vertex (w .points) (w .count) p;
+      count = w .count + 1;
+      closed = eqb next first;
+      lost = false;
+    })
     (walk-lost w)
 
 unfoldable pub walk-vertex : ℕ → ℕ → PlanarPoint → Walk → Vertex → Walk
@@ -58,14 +65,16 @@ pub record Visits (A : Type 0) : Type 0 where
 unfoldable pub visited : {A : Type 0} → (ℕ → Walk → A → A) → Visits A → Walk → Visits A
 visited visit s w = record { made = visit (s .place) w (s .made); place = s .place + 1; seen = w .seen }
 
-unfoldable pub visit-step : {A : Type 0} → (A → Refusal) → (ℕ → Walk → A → A) → List Edge → Float → PlanarPoint → ℕ → Visits A → Visits A
+unfoldable pub visit-step : {A : Type 0} → (A → Refusal) → (ℕ → Walk → A → A) → List Edge → Float → PlanarPoint →
+    ℕ → Visits A → Visits A
 visit-step refusal visit f t origin first s =
     cond (granted (refusal (s .made)) && starts f (s .seen) first) (visited visit s (walk f t origin first (s .seen))) s
 
 unfoldable pub visits-from : {A : Type 0} → A → Visits A
 visits-from a = record { made = a; place = 0; seen = replicate 128 false }
 
-unfoldable pub for-each-ring : {A : Type 0} → (A → Refusal) → (ℕ → Walk → A → A) → List Edge → Float → PlanarPoint → A → A
+unfoldable pub for-each-ring : {A : Type 0} → (A → Refusal) → (ℕ → Walk → A → A) → List Edge → Float →
+    PlanarPoint → A → A
 for-each-ring refusal visit f t origin a = (rounds (visit-step refusal visit f t origin) 128 (visits-from a)) .made
 
 -- opens every definition above, for a proof that computes with all of them

@@ -26,7 +26,8 @@ line-along start u0 u1 =
     record { u0 = u0; u1 = u1; n0 = neg u1; n1 = u0; c = dot (record { east = neg u1; north = u0 }) start }
 
 unfoldable pub line-by : PlanarPoint → PlanarPoint → Float → Through
-line-by start delta length = cond (le length zero-float) NoLine (Along (line-along start (div (delta .east) length) (div (delta .north) length)))
+line-by start delta length =
+    cond (le length zero-float) NoLine (Along (line-along start (div (delta .east) length) (div (delta .north) length)))
 
 unfoldable pub line-of : PlanarPoint → PlanarPoint → Through
 line-of start delta = line-by start delta (hypot (delta .east) (delta .north))

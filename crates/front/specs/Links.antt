@@ -28,8 +28,8 @@ unfoldable pub along : (ℕ → ℕ) → ℕ → ℕ → ℕ
 along next zero a = a
 along next (suc i) a = along next i (next a)
 
--- "An edge is in one closed ring of three or more, linked both ways, when going from next to next passes live edges only and first comes back to it after three steps or
--- more, and it is the previous of its next and the next of its previous."
+-- "An edge is in one closed ring of three or more, linked both ways, when going from next to next passes live edges only and first comes
+-- back to it after three steps or more, and it is the previous of its next and the next of its previous."
 pub record InRing (L : Links) (x : ℕ) : Type 0 where
   pub steps : ℕ
   pub three : 3 ≤ steps
@@ -56,7 +56,8 @@ pub record Removed (next prev live next′ prev′ live′ : ℕ → ℕ) (x : �
   pub prevs : Stored prev prev′ (next x) (prev x)
   pub lives : Stored live live′ x 0
 
--- the start vertex of the edge v meets the edge e, whose copy takes the slot s and is live from then on: e runs on to v, and what came before v runs on to what came after e
+-- the start vertex of the edge v meets the edge e, whose copy takes the slot s and is live from then on: e runs on to v, and what came
+-- before v runs on to what came after e
 pub record Split (next prev live next′ prev′ live′ : ℕ → ℕ) (v e s : ℕ) : Type 0 where
   pub next-before : next′ (prev v) ≡ s
   pub next-copy : next′ s ≡ next e

@@ -21,14 +21,16 @@ LoadGranted =
 -- refused: by 15 or by 16
 abbrev pub LoadRefused : Type 0
 LoadRefused =
-    (distance : Float) (origin : PlanarPoint) (n r : ℕ) (l : Loaded) → Loads distance origin n r l → granted (l .refusal) ≡ false →
+    (distance : Float) (origin : PlanarPoint) (n r : ℕ) (l : Loaded) → Loads distance origin n r l →
+    granted (l .refusal) ≡ false →
     (number (l .refusal) ≡ 15) ⊎ (number (l .refusal) ≡ 16)
 
--- "refused before the front is loaded, all three are 0": no turn is made, and the refusal stands
+-- "refused before the front is loaded, all three are 0": no stage is made, and the refusal stands
 abbrev pub RefusedCounts : Type 0
 RefusedCounts =
     (distance : Float) (l : Loaded) → granted (l .refusal) ≡ false →
-    (run (givens distance l) l ≡ []) × (handed (swept (givens distance l) l) ≡ tally []) × ((swept (givens distance l) l) .refusal ≡ l .refusal)
+    (run (givens distance l) l ≡ []) × (handed (swept (givens distance l) l) ≡ tally [])
+    × ((swept (givens distance l) l) .refusal ≡ l .refusal)
 
 -- before any event all three are 0
 abbrev pub FirstCounts : Type 0

@@ -17,11 +17,11 @@ use Rattle.front.specs.declared.Through.the-variants.{NoLine, Along}
 use Rattle.front.specs.Edges.{unused}
 use Rattle.plane.specs.Plane.{sub}
 use Rattle.ring.specs.Ring.{vertex-at, following}
-use Rattle.polygon.specs.Outlines.{proper}
+use Rattle.outline.specs.Outlines.{proper}
 use Rattle.math.specs.Number.{zero-float}
 use Rattle.front.specs.Lines.{through}
 use Rattle.error.specs.Refusals.{granted}
-use Rattle.loops.specs.Loop.{rounds}
+use Rattle.base.specs.Loop.{rounds}
 
 -- the front starts as 128 copies of `Edge::UNUSED`
 unfoldable pub no-front : List Edge
@@ -40,7 +40,15 @@ load-vertex ps n back origin k = sub (vertex-at ps (cond back (n - 1 - k) k)) or
 -- edge k of a ring of n, whose first edge stands in the slot `first`
 unfoldable pub loaded-edge : Line → ℕ → ℕ → ℕ → PlanarPoint → Edge
 loaded-edge l first n k a =
-    record { line = l; previous = first + cond (eqb k 0) (n - 1) (k - 1); next = first + following n k; alive = true; start = a; since = zero-float }
+    record {
+      line = l;
+      previous = first + cond (eqb k 0) (n - 1) (k - 1);
+      next = first + following n k;
+      alive = true;
+      start = a;
+      since
+          = zero-float;
+    }
 
 -- is there a slot for one edge more?
 unfoldable pub has-room : Loaded → Bool
@@ -73,11 +81,13 @@ load-ring ps n back origin d s = rounds (load-step ps n back origin d (s .used))
 
 -- ---- the fronts that loading makes
 
--- The loaded front of a shape that passes question 21, granted or refused: n edges in r rings, the outer one too, both as handed in. The outer ring comes first, forwards, or
--- backwards for an outset, and its first vertex is the origin; each hole is walked backwards.
+-- The loaded front of a shape that passes question 21, granted or refused: n edges in r rings, the outer one too, both as handed in. The
+-- outer ring comes first, forwards, or backwards for an outset, and its first vertex is the origin; each hole is walked backwards.
 pub data Loads (d : Float) : PlanarPoint → ℕ → ℕ → Loaded → Type 0 where
-  outer : (ps : List Float) (n : ℕ) (back : Bool) → proper 128 ps n ≡ true → Loads d (vertex-at ps 0) n 1 (load-ring ps n back (vertex-at ps 0) d loaded-nothing)
-  hole : {origin : PlanarPoint} {n r : ℕ} {l : Loaded} (ps : List Float) (c : ℕ) → proper 32 ps c ≡ true → Loads d origin n r l → Loads d origin (n + c) (suc r) (load-ring ps c true origin d l)
+  outer : (ps : List Float) (n : ℕ) (back : Bool) → proper 128 ps n ≡ true →
+      Loads d (vertex-at ps 0) n 1 (load-ring ps n back (vertex-at ps 0) d loaded-nothing)
+  hole : {origin : PlanarPoint} {n r : ℕ} {l : Loaded} (ps : List Float) (c : ℕ) → proper 32 ps c ≡ true →
+      Loads d origin n r l → Loads d origin (n + c) (suc r) (load-ring ps c true origin d l)
 
 -- opens every definition above, for a proof that computes with all of them
 unfoldable pub open-loading : Unit {0}

@@ -23,7 +23,7 @@ use Rattle.front.specs.Thresholds.{on-edge, tie}
 use Rattle.plane.specs.Plane.{sub, dot, cross}
 use Rattle.front.specs.Lines.{direction, normal}
 use Rattle.math.specs.Number.{add, zero-float, div, one, fmax, mul}
-use Rattle.loops.specs.Loop.{rounds}
+use Rattle.base.specs.Loop.{rounds}
 
 -- ---- what the search has found
 
@@ -59,19 +59,23 @@ hit-to slot other u step p from s (Moving to w) = cond (hit-within u p from to) 
 
 unfoldable pub hit-from : List Edge → ℕ → ℕ → Edge → Float → Float → PlanarPoint → EventSearch → Vertex → EventSearch
 hit-from f slot other target step at p s NoVertex = look-stalled s
-hit-from f slot other target step at p s (Moving from w) = hit-to slot other (direction (edge-line target)) step p from s (vertex f (target .next) at)
+hit-from f slot other target step at p s (Moving from w) =
+    hit-to slot other (direction (edge-line target)) step p from s (vertex f (target .next) at)
 
-unfoldable pub hit-then : List Edge → Float → ℕ → ℕ → Edge → PlanarPoint → PlanarPoint → Float → EventSearch → EventSearch
+unfoldable pub hit-then : List Edge → Float → ℕ → ℕ → Edge → PlanarPoint → PlanarPoint → Float → EventSearch →
+    EventSearch
 hit-then f t slot other target p v step s =
     hit-from f slot other target step (add t step) (moved-by p v step) s (vertex f other (add t step))
 
 -- the step is not below 0, and sooner than the split in hand
-unfoldable pub hit-after : List Edge → Float → ℕ → ℕ → Edge → PlanarPoint → PlanarPoint → Float → EventSearch → EventSearch
+unfoldable pub hit-after : List Edge → Float → ℕ → ℕ → Edge → PlanarPoint → PlanarPoint → Float → EventSearch →
+    EventSearch
 hit-after f t slot other target p v step s =
     cond (lt step zero-float || late step (s .split)) s (hit-then f t slot other target p v step s)
 
 -- the vertex closes in on the edge's line; the step to it
-unfoldable pub hit-closing : List Edge → Float → ℕ → ℕ → Edge → PlanarPoint → PlanarPoint → Float → EventSearch → EventSearch
+unfoldable pub hit-closing : List Edge → Float → ℕ → ℕ → Edge → PlanarPoint → PlanarPoint → Float → EventSearch →
+    EventSearch
 hit-closing f t slot other target p v closing s =
     cond (le zero-float closing) s
     (hit-after f t slot other target p v (div (Number.sub (add ((edge-line target) .c) t) (dot (normal (edge-line target)) p)) closing) s)
@@ -93,9 +97,10 @@ hits f t slot before p v s = rounds (hit-step f t slot before p v) 128 s
 -- ---- the outer loop: one live edge e at `slot`, whose start vertex is at p with velocity v
 
 -- a start vertex where the front turns right is reflex: only such a one splits
-unfoldable pub look-turn : List Edge → Float → ℕ → Edge → PlanarPoint → PlanarPoint → EventSearch → EventSearch
-look-turn f t slot e p v s =
-    cond (le zero-float (cross (direction (edge-line (edge f (e .previous)))) (direction (edge-line e)))) s (hits f t slot (e .previous) p v s)
+unfoldable pub look-corner : List Edge → Float → ℕ → Edge → PlanarPoint → PlanarPoint → EventSearch → EventSearch
+look-corner f t slot e p v s =
+    cond (le zero-float (cross (direction (edge-line (edge f (e .previous)))) (direction (edge-line e)))) s
+    (hits f t slot (e .previous) p v s)
 
 -- an edge that shrinks is gone after its length, or 0 if that is below, over its pace
 unfoldable pub shrinking : ℕ → Float → Float → EventSearch → EventSearch
@@ -103,7 +108,7 @@ shrinking slot l rate s = cond (lt rate zero-float) (look-collapse s (sooner slo
 
 unfoldable pub look-length : List Edge → Float → ℕ → Edge → PlanarPoint → PlanarPoint → EventSearch → Length → EventSearch
 look-length f t slot e p v s NoLength = look-stalled s
-look-length f t slot e p v s (Long l rate) = look-turn f t slot e p v (shrinking slot l rate s)
+look-length f t slot e p v s (Long l rate) = look-corner f t slot e p v (shrinking slot l rate s)
 
 unfoldable pub look-vertex : List Edge → Float → ℕ → Edge → EventSearch → Vertex → EventSearch
 look-vertex f t slot e s NoVertex = look-stalled s
@@ -120,8 +125,8 @@ look f t = rounds (look-step f t) 128 (record { stalled = false; collapse = NoCo
 
 -- ---- the event
 
--- A split goes before a collapse only if its step < collapse step - 1e-12 × (1 + t). Where there is neither, the Rust gives an edge event infinitely far, which ends the
--- walk; here that is `Never`, and that the two agree at every turn is in `Demand` (`never`).
+-- A split goes before a collapse only if its step < collapse step - 1e-12 × (1 + t). Where there is neither, the Rust gives an edge event
+-- infinitely far, which ends the walk; here that is `Never`, and that the two agree at every stage is in `Demand` (`never`).
 unfoldable pub choose : Float → SoonestCollapse → SoonestSplit → Event
 choose t NoCollapse NoSplit = Never
 choose t NoCollapse (SplitAfter v e s) = Split v e s
@@ -136,5 +141,6 @@ next-event f t = event-of t (look f t)
 
 -- opens every definition above, for a proof that computes with all of them
 unfoldable pub open-next-event : Unit {0}
-unfolding look-stalled look-split look-collapse sooner late hit-within hit-to hit-from hit-then hit-after hit-closing hit-at candidate hit-step hits look-turn shrinking look-length look-vertex look-at look-step look choose event-of next-event
+unfolding look-stalled look-split look-collapse sooner late hit-within hit-to hit-from hit-then hit-after hit-closing hit-at candidate
+    hit-step hits look-corner shrinking look-length look-vertex look-at look-step look choose event-of next-event
 open-next-event = tt

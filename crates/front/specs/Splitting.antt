@@ -1,5 +1,5 @@
--- offset.rs, `Front::split`: the copy of the edge that is hit, and the links; and whether the split divides a ring or joins two. The start vertex of the edge at v runs into
--- the edge at e, whose copy takes a slot of its own. Assumes nothing.
+-- offset.rs, `Front::split`: the copy of the edge that is hit, and the links; and whether the split divides a ring or joins two. The start
+-- vertex of the edge at v runs into the edge at e, whose copy takes a slot of its own. Assumes nothing.
 use Prim.Native.Nat.{ℕ}
 use mathlib.Core.Bool.{Bool, true, false, cond}
 use mathlib.Core.List.{List}
@@ -9,8 +9,8 @@ use lib.Ieee.{Float}
 use Rattle.front.specs.declared.Edge.{Edge}
 use Rattle.plane.specs.declared.PlanarPoint.{PlanarPoint}
 use Rattle.front.specs.declared.Reach.{Reach}
-use Rattle.front.specs.Edges.{edge, set-previous, set-start, set-next}
-use Rattle.loops.specs.Loop.{rounds}
+use Rattle.front.specs.Edges.{edge, on-line-of, set-previous, set-start, set-next}
+use Rattle.base.specs.Loop.{rounds}
 
 -- the first slot that is not alive, one freed or one never taken, and 128 where there is none
 unfoldable pub free-step : List Edge → ℕ → ℕ → ℕ
@@ -21,18 +21,20 @@ free f = rounds (free-step f) 128 128
 
 -- the copy of the edge that is hit starts at the vertex, after the edge before it
 unfoldable pub copy-of : Edge → ℕ → PlanarPoint → Float → Edge
-copy-of hit before p t = record { line = hit .line; previous = before; next = hit .next; alive = true; start = p; since = t }
+copy-of hit before p t = on-line-of hit before (hit .next) true p t
 
 -- the vertex follows the edge that it hits
 unfoldable pub cut : List Edge → ℕ → ℕ → PlanarPoint → Float → List Edge
 cut f v e p t = set-start (set-previous f v e) v p t
 
--- one ring keeps the edge `hit`, at e, and runs on to the vertex; the other takes the copy, at `copy`, after `before`, the edge before the vertex
+-- one ring keeps the edge `hit`, at e, and runs on to the vertex; the other takes the copy, at `copy`, after `before`, the edge before the
+-- vertex
 unfoldable pub split-linked : List Edge → ℕ → ℕ → ℕ → ℕ → Edge → PlanarPoint → Float → List Edge
 split-linked f v e copy before hit p t =
     cut (set-next (set-previous (set-next (set f copy (copy-of hit before p t)) before copy) (hit .next) copy) e v) v e p t
 
--- whether two edges are in one ring: a walk from the first passes the second before it comes round. A split divides where they are, and joins otherwise.
+-- whether two edges are in one ring: a walk from the first passes the second before it comes round. A split divides where they are, and
+-- joins otherwise.
 unfoldable pub reach-on : ℕ → ℕ → ℕ → Reach
 reach-on a b next =
     cond (eqb next a) (record { at = next; found = false; closed = true })

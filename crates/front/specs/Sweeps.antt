@@ -1,4 +1,5 @@
--- offset.rs, `offset_rings`, its main loop: the events, one after the other, until the front has come to the distance. Each offset also hands back its completed events:
+-- offset.rs, `offset_rings`, its main loop: the events, one after the other, until the front has come to the distance. Each offset also
+-- hands back its completed events:
 -- collapses, dividing splits and joining splits, never what tidying removes. Assumes nothing.
 use Prim.Native.Nat.{ℕ, _+_}
 use mathlib.Core.Bool.{Bool, true, false, cond, not, _&&_}
@@ -23,34 +24,77 @@ use Rattle.math.specs.Number.{add, zero-float}
 use Rattle.front.specs.NextEvent.{next-event}
 use Rattle.error.specs.Refusals.{granted}
 use Rattle.front.specs.Tidying.{tidy}
-use Rattle.loops.specs.Loop.{rounds}
+use Rattle.base.specs.Loop.{rounds}
 
 -- a refusal ends the walk: what was completed before it is handed back
 unfoldable pub sweep-refused : Sweep → Refusal → Sweep
 sweep-refused s r =
-    record { edges = s .edges; travelled = s .travelled; collapses = s .collapses; divides = s .divides; joins = s .joins; ended = false; refusal = r }
+    record {
+      edges = s .edges;
+      travelled = s .travelled;
+      collapses = s .collapses;
+      divides = s .divides;
+      joins = s .joins;
+      ended =
+          false;
+      refusal = r;
+    }
 
 -- the front has come to the distance: `Finished`
 unfoldable pub sweep-ended : Sweep → List Edge → Sweep
 sweep-ended s f =
-    record { edges = f; travelled = s .travelled; collapses = s .collapses; divides = s .divides; joins = s .joins; ended = true; refusal = Granted }
+    record {
+      edges = f;
+      travelled = s .travelled;
+      collapses = s .collapses;
+      divides = s .divides;
+      joins = s .joins;
+      ended = true;
+      refusal = Granted;
+    }
 
 -- ---- `Event::Collapse`
 
 unfoldable pub swept-collapse : Float → Sweep → Float → Front → Sweep
 swept-collapse d s t f =
     cond (f .stalled) (sweep-refused s (Splits d))
-    (record { edges = f .edges; travelled = t; collapses = s .collapses + 1; divides = s .divides; joins = s .joins; ended = false; refusal = Granted })
+    (record {
+      edges = f .edges;
+      travelled = t;
+      collapses = s .collapses + 1;
+      divides = s .divides;
+      joins = s .joins;
+      ended = false;
+      refusal = Granted;
+    })
 
 -- ---- `Event::Split`: the start vertex of the edge at v runs into the edge at e
 
 unfoldable pub swept-divide : Sweep → Float → List Edge → Sweep
 swept-divide s t f =
-    record { edges = f; travelled = t; collapses = s .collapses; divides = s .divides + 1; joins = s .joins; ended = false; refusal = Granted }
+    record {
+      edges = f;
+      travelled = t;
+      collapses = s .collapses;
+      divides = s .divides + 1;
+      joins = s .joins;
+      ended = false;
+      refusal =
+          Granted;
+    }
 
 unfoldable pub swept-join : Sweep → Float → List Edge → Sweep
 swept-join s t f =
-    record { edges = f; travelled = t; collapses = s .collapses; divides = s .divides; joins = s .joins + 1; ended = false; refusal = Granted }
+    record {
+      edges = f;
+      travelled = t;
+      collapses = s .collapses;
+      divides = s .divides;
+      joins = s .joins + 1;
+      ended = false;
+      refusal =
+          Granted;
+    }
 
 unfoldable pub swept-split : Sweep → Float → Bool → List Edge → Sweep
 swept-split s t one-ring f = cond one-ring (swept-divide s t f) (swept-join s t f)
@@ -73,7 +117,7 @@ split-at d s f v e t (Moving p w) = split-of s f v e p t (one-ring f v e)
 unfoldable pub split : Float → Sweep → List Edge → ℕ → ℕ → Float → Sweep
 split d s f v e t = split-at d s f v e t (vertex f v t)
 
--- ---- one turn of the loop
+-- ---- one stage of the loop
 
 -- an event that falls on the distance, or beyond it, ends the walk before it
 unfoldable pub sweep-event : Float → Sweep → List Edge → Event → Sweep
@@ -91,11 +135,12 @@ sweep-tidied d s f = cond (f .stalled) (sweep-refused s (Splits d)) (sweep-event
 unfoldable pub sweep-step : Float → ℕ → Sweep → Sweep
 sweep-step d k s = cond (granted (s .refusal) && not (s .ended)) (sweep-tidied d s (tidy (s .edges) (s .travelled))) s
 
--- ---- the loop: 387 turns, three times 128 and three
+-- ---- the loop: 387 stages, three times 128 and three
 
--- before the first turn; a shape that was refused while loading makes none
+-- before the first stage; a shape that was refused while loading makes none
 unfoldable pub sweep-from : Loaded → Sweep
-sweep-from l = record { edges = l .edges; travelled = zero-float; collapses = 0; divides = 0; joins = 0; ended = false; refusal = l .refusal }
+sweep-from l =
+    record { edges = l .edges; travelled = zero-float; collapses = 0; divides = 0; joins = 0; ended = false; refusal = l .refusal }
 
 -- `NotConverged`: 387 events, and what remained of the distance
 unfoldable pub finished : Float → Sweep → Sweep
@@ -107,5 +152,6 @@ offset-rings d l = finished d (rounds (sweep-step d) 387 (sweep-from l))
 
 -- opens every definition above, for a proof that computes with all of them
 unfoldable pub open-sweeps : Unit {0}
-unfolding sweep-refused sweep-ended swept-collapse swept-divide swept-join swept-split split-into split-of split-at split sweep-event sweep-tidied sweep-step sweep-from finished offset-rings
+unfolding sweep-refused sweep-ended swept-collapse swept-divide swept-join swept-split split-into split-of split-at split sweep-event
+    sweep-tidied sweep-step sweep-from finished offset-rings
 open-sweeps = tt

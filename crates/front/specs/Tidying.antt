@@ -1,4 +1,5 @@
--- offset.rs, `Front::tidy`: rings too small, straight vertices, spikes and edges of no length are taken out, one after the other. Assumes nothing.
+-- offset.rs, `Front::tidy`: rings too small, straight vertices, spikes and edges of no length are taken out, one after the other. Assumes
+-- nothing.
 use Prim.Native.Nat.{ℕ}
 use mathlib.Core.Bool.{Bool, false, cond, not, _&&_, _||_}
 use mathlib.Core.List.{List}
@@ -18,9 +19,10 @@ use Rattle.front.specs.declared.Vertex.the-variants.{NoVertex, Moving}
 use Rattle.math.specs.Number.{add, mul, one, zero-float, abs, div, two}
 use Rattle.front.specs.Thresholds.{on-edge, tie, parallel, opposite}
 use Rattle.plane.specs.Plane.{dot, cross}
-use Rattle.front.specs.Edges.{edge-length, edge, edge-line, ring-len, kill, anchor, then-remove, set-start, remove, altered, stalled, vertex, collapse}
+use Rattle.front.specs.Edges.{edge-length, edge, edge-line, ring-len, kill, anchor, then-remove, set-start, remove, altered}
+use Rattle.front.specs.Edges.{stalled, vertex, collapse}
 use Rattle.front.specs.Lines.{direction, meeting}
-use Rattle.loops.specs.Loop.{rounds}
+use Rattle.base.specs.Loop.{rounds}
 
 -- ---- `tidy_once`, its search: the first live slot at which something is to be taken out, and what
 
@@ -39,8 +41,8 @@ opposed u w = lt (add one (dot u w)) opposite
 unfoldable pub same-way : PlanarPoint → PlanarPoint → Bool
 same-way u w = lt (abs (cross u w)) parallel && lt zero-float (dot u w)
 
-unfoldable pub tidy-turn : List Edge → ℕ → Float → PlanarPoint → PlanarPoint → Tidy
-tidy-turn f slot t u w = cond (opposed u w) (Spike slot) (cond (same-way u w) (Straight slot) (tidy-length slot t (edge-length f slot t)))
+unfoldable pub tidy-corner : List Edge → ℕ → Float → PlanarPoint → PlanarPoint → Tidy
+tidy-corner f slot t u w = cond (opposed u w) (Spike slot) (cond (same-way u w) (Straight slot) (tidy-length slot t (edge-length f slot t)))
 
 -- `Tidy::Ring`: a ring of fewer than three edges
 unfoldable pub few : ℕ → Bool
@@ -49,7 +51,7 @@ few n = ltb n 3
 unfoldable pub tidy-edge : List Edge → ℕ → Float → Edge → Tidy
 tidy-edge f slot t e =
     cond (few (ring-len f slot)) (SmallRing slot)
-    (tidy-turn f slot t (direction (edge-line e)) (direction (edge-line (edge f (e .next)))))
+    (tidy-corner f slot t (direction (edge-line e)) (direction (edge-line (edge f (e .next)))))
 
 unfoldable pub tidy-at : List Edge → ℕ → Float → Edge → Tidy
 tidy-at f slot t e = cond (e .alive) (tidy-edge f slot t e) Settled
@@ -133,5 +135,6 @@ tidy f t = rounds (tidy-step t) 129 (altered f)
 
 -- opens every definition above, for a proof that computes with all of them
 unfoldable pub open-tidying : Unit {0}
-unfolding empty tidy-length opposed same-way tidy-turn few tidy-edge tidy-at unless-found find-step find-tidy drop-on drop-step drop-ring drop-straight midpoint meeting-or drop-both spike-to spike-from drop-spike tidy-by tidy-once tidy-step tidy
+unfolding empty tidy-length opposed same-way tidy-corner few tidy-edge tidy-at unless-found find-step find-tidy drop-on drop-step drop-ring
+    drop-straight midpoint meeting-or drop-both spike-to spike-from drop-spike tidy-by tidy-once tidy-step tidy
 open-tidying = tt

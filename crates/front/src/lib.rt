@@ -75,8 +75,8 @@ pub enum Length {
     Long(f64, f64),
 }
 
-// What a tidying step removes, and at which slot: nothing; a ring of fewer than three edges; the second of two neighbours that face the same way; both of two that face
-// opposite ways; an edge of no length that does not grow.
+// What a tidying step removes, and at which slot: nothing; a ring of fewer than three edges; the second of two neighbours that face the
+// same way; both of two that face opposite ways; an edge of no length that does not grow.
 pub enum Tidy {
     Settled,
     SmallRing(usize),
@@ -125,7 +125,8 @@ pub struct Reach {
     pub closed: bool,
 }
 
-// The front after a step. `stalled`: a vertex that the step needed has no velocity, and nothing was changed; `changed`: whether tidying took something out.
+// The front after a step. `stalled`: a vertex that the step needed has no velocity, and nothing was changed; `changed`: whether tidying
+// took something out.
 pub struct Front {
     pub edges: [Edge; 128],
     pub stalled: bool,

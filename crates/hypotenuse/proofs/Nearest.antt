@@ -21,7 +21,10 @@ from-size s k most least = record {
   low = le-div-iff-mul-le (pow-pos (2 * k)) .0 (root .0);
   high = div-lt-iff-lt-mul (pow-pos (2 * k)) .0 (root .1);
   small = sq-lt (whole-root 53 n) (2 ^ 53) (lt-of-le-of-lt (root .0) under);
-  full = λ (p : 0 < k). less (whole-root 53 n) (sq-lt (2 ^ 52) (whole-root 53 n + 1) (lt-of-le-of-lt (le-div-iff-mul-le {x = 2 ^ 104} (pow-pos (2 * k)) .1 (subst (λ (x : ℕ). x ≤ s) (pow-add 2 104 (2 * k)) (size-reaches s (104 + 2 * k) (least p)))) (root .1)));
+  full =
+      λ (p : 0 < k). less (whole-root 53 n) (sq-lt (2 ^ 52) (whole-root 53 n + 1) (lt-of-le-of-lt
+      (le-div-iff-mul-le {x = 2 ^ 104} (pow-pos (2 * k)) .1
+      (subst (λ (x : ℕ). x ≤ s) (pow-add 2 104 (2 * k)) (size-reaches s (104 + 2 * k) (least p)))) (root .1)));
 }
   where
     n : ℕ
@@ -220,7 +223,7 @@ module _ (s w K q : ℕ) (low : w * w * (K * K) ≤ s) (high : s < (w + 1) * (w 
           clash p h i j = omega arith
 
 -- ---- the theorem
-square-power : (k : ℕ) → 2 ^ (2 * k) ≡ 2 ^ k * 2 ^ k
+pub square-power : (k : ℕ) → 2 ^ (2 * k) ≡ 2 ^ k * 2 ^ k
 square-power k = ap (λ (x : ℕ). 2 ^ x) (two k) ∙ pow-add 2 k k
   where
     two : (k : ℕ) → 2 * k ≡ k + k

@@ -12,6 +12,9 @@ le-or-lt a b = at (a - b) refl
     at zero e = inl (omega arith)
     at (suc d) e = inr (omega arith)
 
+pub le-of-not-lt : {a b : ℕ} → (b < a → ⊥) → a ≤ b
+le-of-not-lt h = omega arith
+
 pub sq-le : {a b : ℕ} → a ≤ b → a * a ≤ b * b
 sq-le h = mul-le-mul h h
 

@@ -13,7 +13,7 @@ use lib.Ieee.Exact.{HasValue}
 use lib.Ieee.Bits.{ofBits-toBits}
 use Rattle.hypotenuse.specs.Nearest.{Held, NearestRoot, Rounds, past, near}
 use Rattle.hypotenuse.proofs.Poly.{poly}
-use Rattle.hypotenuse.proofs.Order.{le-or-lt, sq-mono}
+use Rattle.hypotenuse.proofs.Order.{le-or-lt, sq-mono, le-of-not-lt}
 use Rattle.hypotenuse.proofs.Nearest.{held-of}
 use Rattle.hypotenuse.proofs.Units.{count-of}
 
@@ -116,10 +116,7 @@ one-root {s} {q} {k} {r} {j} n m l =
     plus a h = omega arith
 
 same-root : {s q k r j : ℕ} → NearestRoot s q k → NearestRoot s r j → q * 2 ^ k ≡ r * 2 ^ j
-same-root {s} {q} {k} {r} {j} n m = le-antisymm (not-less (one-root m n)) (not-less (one-root n m))
-  where
-    not-less : {a b : ℕ} → (b < a → ⊥) → a ≤ b
-    not-less h = omega arith
+same-root {s} {q} {k} {r} {j} n m = le-antisymm (le-of-not-lt (one-root m n)) (le-of-not-lt (one-root n m))
 
 -- a double is known by its size
 same-bits : (u v : Float) (a b : ℕ) → HasValue u false a (2 ^ 1074) → HasValue v false b (2 ^ 1074) → a ≡ b → toBits binary64 u ≡ toBits binary64 v

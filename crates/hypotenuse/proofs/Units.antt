@@ -12,6 +12,7 @@ use lib.Ieee.Exact.{HasValue}
 use lib.Ieee.Fits.{down-pos, and-l, and-r}
 use Rattle.hypotenuse.specs.Hypot.{count}
 use Rattle.hypotenuse.specs.Nearest.{Held}
+use Rattle.hypotenuse.proofs.Order.{le-of-not-lt}
 
 -- m * 2 ^ e in units: m, which is below 2 ^ 53, with j zeros after it
 record Scaled (m : ℕ) (e : ℤ) : Type 0 where
@@ -46,10 +47,7 @@ scaled s (suc m) (negsuc k) f = record {
 }
   where
     low : suc k ≤ 1074
-    low = not-less (λ (h : 1074 < suc k). not-le-of-lt (pow-lt h) (fits-parts s m (negsuc k) f .1))
-      where
-        not-less : {a b : ℕ} → (b < a → ⊥) → a ≤ b
-        not-less n = omega arith
+    low = le-of-not-lt (λ (h : 1074 < suc k). not-le-of-lt (pow-lt h) (fits-parts s m (negsuc k) f .1))
 
     back : (k : ℕ) → suc k ≤ 1074 → 1074 ≡ 1074 - suc k + suc k
     back k h = omega arith

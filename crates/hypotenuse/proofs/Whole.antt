@@ -12,7 +12,8 @@ use Rattle.hypotenuse.specs.Hypot.{whole-root, dropped, kept}
 use Rattle.hypotenuse.proofs.Poly.{poly}
 use Rattle.hypotenuse.proofs.Order.{sq-lt}
 
-four : (d : ℕ) → 2 ^ (2 * suc d) ≡ 4 * 2 ^ (2 * d)
+-- each place of a root has two of its square
+pub four : (d : ℕ) → 2 ^ (2 * suc d) ≡ 4 * 2 ^ (2 * d)
 four d = ap (λ (x : ℕ). 2 ^ x) (is d) ∙ pow-add 2 2 (2 * d)
   where
     is : (d : ℕ) → 2 * suc d ≡ 2 + 2 * d

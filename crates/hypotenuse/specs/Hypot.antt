@@ -1,6 +1,6 @@
--- `hypot` of 01 (math.rs), correctly rounded by IEEE 754-2019, clause 9.2: the double nearest to the root of x² + y², at a tie the one whose
--- last digit is even. `Nearest.antt` states that of it, and it is proved. Everything is a whole number: a finite magnitude is counted in units
--- of the smallest positive double, 2 ^ -1074. Definitions only.
+-- `hypot` of 01 (math.rs), correctly rounded by IEEE 754-2019, clause 9.2: the double nearest to the root of x² + y², at a tie the one
+-- whose last digit is even. `Nearest.antt` states that of it, and it is proved. Everything is a whole number: a finite magnitude is counted
+-- in units of the smallest positive double, 2 ^ -1074. Definitions only.
 use Prim.Native.Nat.{ℕ, zero, suc, _+_, _-_, _*_, _/_, _^_, compare}
 use mathlib.Core.Bool.{false, cond}
 use lib.Dec.{leb}

@@ -4,9 +4,9 @@ ghost use mathlib.Core.Path.{_≡_};
 ghost use lib.ListN.{length};
 ghost use Rattle.lizardwire.specs.Program;
 
-// After a turn over a block: how many of its bytes are taken, how many of a cut line are held, and how many bytes of the output are to be
+// After a round over a block: how many of its bytes are taken, how many of a cut line are held, and how many bytes of the output are to be
 // written.
-struct Turn {
+struct Round {
     at: usize,
     count: usize,
     used: usize,
@@ -59,28 +59,32 @@ fn say_failed() {
     );
 }
 
-// One turn of the loop over a block: the lines from `at` on, as many as have their answers in the output.
-fn next_turn<'a>(
+// One round of the loop over a block: the lines from `at` on, as many as have their answers in the output.
+fn next_round<'a>(
     block: &'a [u8],
     at: usize,
     held: &'a mut [u8],
     count: usize,
     out: &'a mut [u8],
-) -> Turn
+) -> Round
     requires { ⌜ at ≤ length (now block) ⌝ }
-    ensures told { λ r. ⌜ r ≡ Program.turn-after (now (block .entry)) at (now (held .entry)) count (now (out .entry)) ⌝ }
-    ensures held { λ _. ⌜ now (held .exit) ≡ Program.held-after (now (block .entry)) at (now (held .entry)) count (now (out .entry)) ⌝ }
-    ensures written { λ _. ⌜ now (out .exit) ≡ Program.out-after (now (block .entry)) at (now (held .entry)) count (now (out .entry)) ⌝ }
+    ensures told { λ r. ⌜ r ≡ Program.round-after (now (block .entry)) at (now (held .entry)) count (now (out .entry)) ⌝ }
+    ensures held { λ _. ⌜
+        now (held .exit) ≡ Program.held-after (now (block .entry)) at (now (held .entry)) count (now (out .entry))
+        ⌝ }
+    ensures written { λ _. ⌜
+        now (out .exit) ≡ Program.out-after (now (block .entry)) at (now (held .entry)) count (now (out .entry))
+        ⌝ }
 {
-    let fed = wire::feed(&block[at..], held, count, out);
-    Turn {
+    let fed = job_lines::feed(&block[at..], held, count, out);
+    Round {
         at: at + fed.taken,
         count: fed.count,
         used: fed.used,
     }
 }
 
-// Turn after turn, until the block is taken; the answers of each are written before the next. Each turn takes a byte at least.
+// Round after round, until the block is taken; the answers of each are written before the next. Each round takes a byte at least.
 fn feed_block<'a>(block: &'a [u8], held: &'a mut [u8], count: usize, out: &'a mut [u8]) -> Run
     requires { ⌜ 16385 ≤ length (now held) ⌝ }
     requires { ⌜ count ≤ 16385 ⌝ }
@@ -90,7 +94,7 @@ fn feed_block<'a>(block: &'a [u8], held: &'a mut [u8], count: usize, out: &'a mu
     let mut at = 0usize;
     let mut have = count;
     while at < block.len() {
-        let t = next_turn(block, at, held, have, out);
+        let t = next_round(block, at, held, have, out);
         have = t.count;
         at = t.at;
         if !io::write_all(1, &out[..t.used]) {
@@ -112,7 +116,7 @@ fn feed_block<'a>(block: &'a [u8], held: &'a mut [u8], count: usize, out: &'a mu
 fn end_input<'a>(held: &'a [u8], count: usize, out: &'a mut [u8]) -> Run
     ensures { λ r. ⌜ r .count ≡ 0 ⌝ }
 {
-    let last = wire::finish(held, count, out);
+    let last = job_lines::finish(held, count, out);
     Run {
         count: 0,
         more: false,
@@ -142,15 +146,15 @@ fn read_some<'a>(block: &'a mut [u8], held: &'a mut [u8], count: usize, out: &'a
     feed_block(&block[..n], held, count, out)
 }
 
-// A proved loop has to end: it counts its turns down, from a number that no run uses up.
+// A proved loop has to end: it counts its rounds down, from a number that no run uses up.
 fn read_all<'a>(block: &'a mut [u8], held: &'a mut [u8], out: &'a mut [u8]) -> bool
     requires { ⌜ 16385 ≤ length (now held) ⌝ }
     requires { ⌜ 16385 ≤ length (now out) ⌝ }
 {
     let mut count = 0usize;
-    let mut turns = u64::MAX;
-    while turns > 0 {
-        turns -= 1;
+    let mut rounds = u64::MAX;
+    while rounds > 0 {
+        rounds -= 1;
         let r = read_some(block, held, count, out);
         count = r.count;
         if r.failed {

@@ -1,11 +1,12 @@
 -- The bounds and the counts of an outline's offset pass on to what C is told. Assumes nothing.
-use Rattle.polygon.specs.declared.Outline.{Outline}
+use Rattle.outline.specs.declared.Outline.{Outline}
 use Rattle.offset.specs.declared.OffsetWritten.{OffsetWritten}
 use Rattle.offset.specs.Offsets.{outline-load}
 use Rattle.offset.specs.Lent.{offset-write}
 use Rattle.offset.proofs.Counted.{write-accounts}
 use Rattle.region_c.proofs.Counted.{told-accounts}
-use Rattle.lizardwire_c.specs.Exports.{given, offset-answer, told-offset}
+use Rattle.told.specs.Told.{offset-answer}
+use Rattle.lizardwire_c.specs.Exports.{given, told-offset}
 use Rattle.lizardwire_c.specs.Counted.{OffsetTold}
 
 pub offset-told : OffsetTold

@@ -4,13 +4,12 @@ use mathlib.Core.Path.{_≡_}
 use mathlib.Core.Bool.{Bool, true, false}
 use mathlib.Core.List.{List}
 use lib.Ieee.{Float}
-use Rattle.polygon.specs.Outlines.{proper}
+use Rattle.outline.specs.Outlines.{proper}
 use Rattle.offset.specs.Offsets.{outline-load}
-use Rattle.offset.specs.Lent.{offset-write}
 use Rattle.offset.specs.Answers.{NoEvent}
 use Rattle.region_c.specs.Counted.{ToldAccounts}
-use Rattle.lizardwire_c.specs.declared.LwOffset.{LwOffset}
-use Rattle.lizardwire_c.specs.Exports.{given, told-offset}
+use Rattle.told.specs.declared.LwOffset.{LwOffset}
+use Rattle.lizardwire_c.specs.Exports.{given, lw-offset}
 
 -- the answer a about the numbers ps of an outline that passes 21 or is refused by it
 pub record OutlineTold (ps : List Float) (outward : Bool) (distance : Float) (a : LwOffset) : Type 0 where
@@ -22,4 +21,4 @@ pub record OutlineTold (ps : List Float) (outward : Bool) (distance : Float) (a 
 abbrev pub OffsetTold : Type 0
 OffsetTold =
     (ps : List Float) (outward : Bool) (distance : Float) (out : List Float) →
-    OutlineTold ps outward distance (told-offset (offset-write (given ps) outward distance out))
+    OutlineTold ps outward distance (lw-offset outward ps distance out)

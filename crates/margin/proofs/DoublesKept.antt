@@ -13,14 +13,15 @@ use Rattle.plane.specs.declared.PlanarPoint.{PlanarPoint}
 use Rattle.error.specs.declared.Refusal.{Refusal}
 use Rattle.error.specs.declared.Refusal.the-variants.{Granted, Splits, Collapses, ManyPieces, Shape}
 use Rattle.error.specs.Refusals.{granted}
-use Rattle.loops.proofs.Laws.{rounds-keep}
+use Rattle.base.proofs.Laws.{rounds-keep}
+use Rattle.base.proofs.Choices.{both}
 use Rattle.ring.specs.Ring.{vertex-at, source, stored-at}
 use Rattle.ring.specs.Store.{store-vertex, store-step, stored}
-use Rattle.measures.specs.Measures.{signed-area, extent}
-use Rattle.meet.specs.Meet.{rings-meet}
-use Rattle.polygon.specs.declared.Outline.{Outline}
-use Rattle.polygon.specs.declared.NewOutline.{NewOutline}
-use Rattle.polygon.specs.Outlines.{proper, no-outline, stored-outline, outline-refused, offset-tolerance}
+use Rattle.ring_measure.specs.Measures.{signed-area, extent}
+use Rattle.ring_cross.specs.Meet.{rings-meet}
+use Rattle.outline.specs.declared.Outline.{Outline}
+use Rattle.outline.specs.declared.NewOutline.{NewOutline}
+use Rattle.outline.specs.Outlines.{proper, no-outline, stored-outline, outline-refused, offset-tolerance}
 use Rattle.front.specs.declared.Edge.{Edge}
 use Rattle.front.specs.declared.Vertex.{Vertex}
 use Rattle.front.specs.declared.Vertex.the-variants.{NoVertex, Moving}
@@ -35,7 +36,6 @@ use Rattle.offset.specs.declared.Offset.{Offset}
 use Rattle.offset.specs.Rings.{offset-piece}
 use Rattle.offset.specs.Offsets.{check-distance, pieces-refused, expected, with-piece, visit-piece, pieces-refusal, pieces, keeps-clear, offset-clear}
 use Rattle.offset.specs.Offsets.{offset-found, offset-finished, offset-swept, offset-counted, offset-plain, sweep, offset-from, offset-by, offset}
-use Rattle.offset.proofs.Choices.{both}
 use Rattle.offset.proofs.Visits.{visits-keep}
 use Rattle.region.specs.declared.Region.{Region}
 use Rattle.region.specs.declared.NewRegion.{NewRegion}

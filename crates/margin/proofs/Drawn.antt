@@ -6,10 +6,13 @@ use mathlib.Core.Path.{_≡_, refl, sym, _∙_, subst}
 use mathlib.Core.Logic.{inl, inr}
 use mathlib.Core.Bool.{Bool, true, false, _&&_, false≢true}
 use mathlib.Core.List.{List}
+use mathlib.Mathlib.Data.Bool.Basic.{and-elim-left, and-elim-right}
 use borrow.Author.Tests.{ltb-true}
 use lib.Dec.{ltb, eqb}
 use lib.ListN.{replicate, length, length-replicate}
 use lib.Ieee.{Float, lt}
+use Rattle.base.proofs.Choices.{by-test}
+use Rattle.base.proofs.Choices.{both}
 use Rattle.error.specs.declared.Refusal.{Refusal}
 use Rattle.error.specs.declared.Refusal.the-variants.{Odd, Few, Repeated, Flat}
 use Rattle.error.specs.Refusals.{number, values, granted}
@@ -18,19 +21,17 @@ use Rattle.margins.specs.Far.{over}
 use Rattle.plane.specs.Plane.{same}
 use Rattle.ring.specs.Ring.{vertex-at, stored-at}
 use Rattle.ring.specs.Store.{stored}
-use Rattle.measures.specs.Measures.{signed-area, span}
-use Rattle.simple.specs.Simple.{check-simple}
-use Rattle.ringcheck.specs.declared.Checked.{Checked}
-use Rattle.ringcheck.specs.Checks.{kept, check-range, repeats, flat, crossed, refused, passed, check-turned, check-area, check-shape, check-in-range, check-kept, check-ring}
-use Rattle.polygon.specs.declared.Outline.{Outline}
-use Rattle.polygon.specs.declared.NewOutline.{NewOutline}
-use Rattle.polygon.specs.Outlines.{stored-outline, outline-refused, outline-of, new-outline, check-finite, outline-if, outline}
-use Rattle.front.proofs.Demand.Choice.{and-left, and-right}
+use Rattle.ring_measure.specs.Measures.{signed-area, span}
+use Rattle.ring_cross.specs.Simple.{check-simple}
+use Rattle.ring_check.specs.declared.Checked.{Checked}
+use Rattle.ring_check.specs.Checks.{kept, check-range, repeats, flat, crossed, refused, passed, check-reversed, check-area, check-shape, check-in-range, check-kept, check-ring}
+use Rattle.ring_check.proofs.Sound.{check-sound}
+use Rattle.outline.specs.declared.Outline.{Outline}
+use Rattle.outline.specs.declared.NewOutline.{NewOutline}
+use Rattle.outline.specs.Outlines.{stored-outline, outline-refused, outline-of, new-outline, check-finite, outline-if, outline}
+use Rattle.outline.proofs.Outlines.{new-outline-proper}
 use Rattle.offset.specs.Offsets.{offset}
-use Rattle.offset.proofs.Choices.{either, both}
-use Rattle.offset.proofs.Passes.{check-sound}
-use Rattle.offset.proofs.Storing.{stored-new}
-use Rattle.offset.proofs.Accepted.{new-outline-proper}
+use Rattle.ring.proofs.Storing.{stored-new}
 use Rattle.margin.specs.Margin.{Doubles, largest-of}
 use Rattle.margin.specs.Drawn.{DrawnMargin, NewOutlineMargin, OutlineMargin}
 use Rattle.margin.proofs.Extents.{largest-is}
@@ -44,8 +45,8 @@ kept-left : (ps : List Float) (n : ℕ) → Left ps n (kept ps n)
 unfolding kept
 kept-left ps n =
     let t : Bool = same (vertex-at ps (n - 1)) (vertex-at ps 0) in
-    either (Left ps n) (ltb 1 n && t)
-    (λ h. inr (less n (ltb-true 1 n (and-left (ltb 1 n) t h)), and-right (ltb 1 n) t h))
+    by-test (Left ps n) (ltb 1 n && t)
+    (λ h. inr (less n (ltb-true 1 n (and-elim-left (ltb 1 n) t h)), and-elim-right (ltb 1 n) t h))
     (λ h. inl refl)
   where
     less : (n : ℕ) → 1 < n → n ≡ n - 1 + 1
@@ -59,16 +60,16 @@ unfolding refused
 refused-counts m r h = record { count = λ q. absurd (false≢true (sym h ∙ q)) }
 
 kept-counts : (room ring : ℕ) (ps : List Float) (m : ℕ) → Counts m (check-kept room ring ps m)
-unfolding check-kept check-in-range check-shape check-area check-turned passed granted number values
+unfolding check-kept check-in-range check-shape check-area check-reversed passed granted number values
 kept-counts room ring ps m =
     let r : Refusal = check-range room ring ps m in
     let back : Bool = lt (signed-area ps m) zero-float in
     let c : Refusal = crossed ring m back (check-simple ps m back) in
     both (Counts m) (ltb m 3) (refused-counts m (Few ring m) refl)
-    (either (Counts m) (granted r)
+    (by-test (Counts m) (granted r)
     (λ g. both (Counts m) (repeats ps m) (refused-counts m (Repeated ring) refl)
     (both (Counts m) (flat (signed-area ps m) (span ps m)) (refused-counts m (Flat ring) refl)
-    (either (Counts m) (granted c) (λ h. record { count = λ q. refl }) (λ h. refused-counts m c h))))
+    (by-test (Counts m) (granted c) (λ h. record { count = λ q. refl }) (λ h. refused-counts m c h))))
     (λ g. refused-counts m r g))
 
 pub check-left : (room ring : ℕ) (ps : List Float) (n : ℕ) → granted ((check-ring room ring ps n) .refusal) ≡ true → Left ps n ((check-ring room ring ps n) .count)
@@ -108,7 +109,7 @@ pub new-stands : (ps : List Float) (n : ℕ) → NewStands ps n (new-outline ps 
 unfolding new-outline outline-of outline-refused stored-outline
 new-stands ps n =
     let c : Checked = check-ring 128 0 ps n in
-    either (NewStands ps n) (granted (c .refusal))
+    by-test (NewStands ps n) (granted (c .refusal))
     (λ g. record { stands = λ q. outline-stands ps n g; doubles = λ q d. outline-doubles ps (c .count) (c .back) d .all })
     (λ g. record { stands = λ q. absurd (false≢true (sym g ∙ q)); doubles = λ q. absurd (false≢true (sym g ∙ q)) })
 
@@ -135,7 +136,7 @@ pub outline-is : (ps : List Float) → Accepted ps (outline ps)
 unfolding outline outline-if granted number values
 outline-is ps =
     both (Accepted ps) (eqb (length ps % 2) 0)
-    (either (Accepted ps) (granted (check-finite ps)) (λ f. record { is = λ q. refl }) (λ f. refused-not ps (check-finite ps) f))
+    (by-test (Accepted ps) (granted (check-finite ps)) (λ f. record { is = λ q. refl }) (λ f. refused-not ps (check-finite ps) f))
     (refused-not ps Odd refl)
 
 pub outline-margin : OutlineMargin

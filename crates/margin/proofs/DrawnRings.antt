@@ -2,8 +2,9 @@
 use Prim.Native.Nat.{ℕ, zero, suc, _+_, _-_, _*_, _%_, _≤_, _<_}
 use native.Mathlib.Omega.{arith}
 use mathlib.Core.Path.{_≡_, refl, sym, ap, _∙_, subst}
-use mathlib.Core.Bool.{Bool, true, false, _&&_, false≢true}
+use mathlib.Core.Bool.{Bool, true, false, false≢true}
 use mathlib.Core.List.{List}
+use mathlib.Mathlib.Data.Bool.Basic.{and-elim-left}
 use borrow.Author.Tests.{ltb-true, ltb-false}
 use lib.Dec.{T, ltb, eqb}
 use lib.ListN.{getD, drop, set, length, length-set, length-replicate}
@@ -13,26 +14,27 @@ use Rattle.error.specs.declared.Refusal.{Refusal}
 use Rattle.error.specs.declared.Refusal.the-variants.{Granted, Lengths, Odd}
 use Rattle.error.specs.Refusals.{number, values, granted}
 use Rattle.math.specs.Number.{zero-float}
-use Rattle.loops.specs.Loop.{rounds}
-use Rattle.loops.proofs.Laws.{rounds-keep}
+use Rattle.base.specs.Loop.{rounds}
+use Rattle.base.proofs.Laws.{rounds-keep}
+use Rattle.base.proofs.Choices.{by-cases, by-test}
+use Rattle.base.proofs.Choices.{both}
+use Rattle.base.proofs.Sums.{sums-to}
 use Rattle.margins.specs.Far.{over, magnitude}
 use Rattle.ring.specs.Ring.{vertex-at, stored-at}
-use Rattle.ringcheck.specs.declared.Checked.{Checked}
-use Rattle.ringcheck.specs.Checks.{check-ring}
-use Rattle.polygon.specs.declared.Outline.{Outline}
-use Rattle.polygon.specs.Outlines.{stored-outline, check-finite}
-use Rattle.front.proofs.Demand.Occ.{by-cases}
-use Rattle.front.proofs.Demand.Choice.{and-left}
-use Rattle.offset.proofs.Choices.{either, both, sums-to}
-use Rattle.offset.proofs.Passes.{check-sound}
-use Rattle.offset.proofs.Storing.{stored-length, stored-new, stored-old}
+use Rattle.ring_check.specs.declared.Checked.{Checked}
+use Rattle.ring_check.specs.Checks.{check-ring}
+use Rattle.ring_check.proofs.Sound.{check-sound}
+use Rattle.outline.specs.declared.Outline.{Outline}
+use Rattle.outline.specs.Outlines.{stored-outline, check-finite}
+use Rattle.ring.proofs.Storing.{stored-length, stored-new, stored-old}
 use Rattle.region.specs.declared.Region.{Region}
 use Rattle.region.specs.declared.RegionLoad.{RegionLoad}
 use Rattle.region.specs.declared.NewRegion.{NewRegion}
 use Rattle.region.specs.Regions.{no-region, hole-points, hole-count, ring-points, ring-count, with-outer, store-hole, count-hole, with-hole, region-extent}
-use Rattle.region.specs.Checks.{check-region, region-refused, region-if, rings-refused, hole-loaded, hole-load-step, outer-loaded, load-rings, region-loaded, total-step, total, region-finite, region}
+use Rattle.region.specs.Checks.{check-region, region-refused, region-if, rings-refused, hole-loaded, hole-load-step, outer-loaded, load-rings, region-loaded, total-step, total, lengths-fit, region-finite, region}
 use Rattle.region.specs.Insets.{region-inset}
 use Rattle.region.proofs.Holes.{hole-vertex}
+use Rattle.region.proofs.LengthsFit.{some-ring}
 use Rattle.region.proofs.Loaded.{region-again}
 use Rattle.margin.specs.Margin.{Doubles, RingFar, Largest, RegionDoubles, LargestOfRings}
 use Rattle.margin.specs.Lent.{ring-in}
@@ -113,7 +115,7 @@ module _ (q : Region) (room : Room q) (qs : List Float) (n : ℕ) (back : Bool) 
 
   pub with-more : More (with-hole q qs n back)
   unfolding with-hole
-  with-more = either More (ltb (q .holes) 8) (λ l. store-more (ltb-true (q .holes) 8 l)) (λ l. count-more (ltb-false (q .holes) 8 l))
+  with-more = by-test More (ltb (q .holes) 8) (λ l. store-more (ltb-true (q .holes) 8 l)) (λ l. count-more (ltb-false (q .holes) 8 l))
 
 -- ---- the walk that loads them
 
@@ -137,7 +139,7 @@ module _ (lengths : List ℕ) (ps : List Float) where
   outer-loading =
       let n : ℕ = getD lengths 0 0 in
       let c : Checked = check-ring 128 0 ps n in
-      either (Loading 0) (granted (c .refusal))
+      by-test (Loading 0) (granted (c .refusal))
       (λ g. record {
         loaded = λ q. record {
           start = omega arith;
@@ -176,7 +178,7 @@ module _ (lengths : List ℕ) (ps : List Float) where
     unfolding hole-loaded rings-refused
     hole-loading =
         let c : Checked = check-ring 32 (k + 1) qs n in
-        either (Loading (suc k)) (granted (c .refusal))
+        by-test (Loading (suc k)) (granted (c .refusal))
         (λ g.
         let fit : c .count ≤ 32 = check-sound 32 (k + 1) qs n g .fits in
         let more : More (s .shape) (h .room) qs (c .count) (c .back) fit (with-hole (s .shape) qs (c .count) (c .back)) = with-more (s .shape) (h .room) qs (c .count) (c .back) fit in
@@ -201,7 +203,7 @@ module _ (lengths : List ℕ) (ps : List Float) where
   step-loading : (k : ℕ) (s : RegionLoad) → Loading k s → Loading (suc k) (hole-load-step lengths ps k s)
   unfolding hole-load-step
   step-loading k s h =
-      either (Loading (suc k)) (granted (s .refusal)) (λ g. hole-loading k s (h .loaded g)) (λ g. record { loaded = λ q. absurd (false≢true (sym g ∙ q)) })
+      by-test (Loading (suc k)) (granted (s .refusal)) (λ g. hole-loading k s (h .loaded g)) (λ g. record { loaded = λ q. absurd (false≢true (sym g ∙ q)) })
 
   rings-loaded : granted ((load-rings lengths ps) .refusal) ≡ true → LoadedTo (length lengths - 1) (load-rings lengths ps)
   unfolding load-rings
@@ -228,7 +230,7 @@ module _ (lengths : List ℕ) (ps : List Float) where
   all-rings : (M : ℕ) (c : ℕ) → ((l i : ℕ) → l < c → i < 2 * getD lengths l 0 → magnitude (getD (ring-in lengths ps l) i nan) ≤ M) → (k : ℕ) → k < 2 * before c → magnitude (getD ps k nan) ≤ M
   unfolding ring-in rounds total-step
   all-rings M zero h k l = absurd (omega arith)
-  all-rings M (suc c) h k l = either (λ (b : Bool). magnitude (getD ps k nan) ≤ M) (ltb k (2 * before c)) {x = true} {y = false}
+  all-rings M (suc c) h k l = by-test (λ (b : Bool). magnitude (getD ps k nan) ≤ M) (ltb k (2 * before c)) {x = true} {y = false}
       (λ e. all-rings M c (λ l i z. h l i (omega arith)) k (ltb-true k (2 * before c) e))
       (λ e. let z : 2 * before c ≤ k = ltb-false k (2 * before c) e in
       subst (λ (x : Float). magnitude x ≤ M) (getD-drop (2 * before c) ps (k - 2 * before c) nan ∙ ap (λ (i : ℕ). getD ps i nan) (omega arith)) (h c (k - 2 * before c) (omega arith) (omega arith)))
@@ -288,8 +290,8 @@ module _ (lengths : List ℕ) (ps : List Float) where
       s = load-rings lengths ps
 
       both-stand : LoadedStands (region-loaded s)
-      both-stand = either LoadedStands (granted (s .refusal))
-          (λ g. either LoadedStands (granted (check-region (s .shape)))
+      both-stand = by-test LoadedStands (granted (s .refusal))
+          (λ g. by-test LoadedStands (granted (check-region (s .shape)))
           (λ e. record { stands = λ q few. loaded-stands some s (rings-loaded g) few })
           (λ e. refused-stands (check-region (s .shape)) e))
           (λ g. refused-stands (s .refusal) g)
@@ -305,11 +307,10 @@ module _ (lengths : List ℕ) (ps : List Float) where
   region-is : Accepted (region lengths ps)
   unfolding region region-finite granted number values
   region-is =
-      let fit : Bool = eqb (2 * total lengths) (length ps) in
       both Accepted (eqb (length ps % 2) 0)
-      (either Accepted (granted (check-finite ps))
-      (λ f. either Accepted (ltb 0 (length lengths) && fit)
-      (λ t. record { is = λ q. refl; some = λ q. ltb-true 0 (length lengths) (and-left (ltb 0 (length lengths)) fit t) })
+      (by-test Accepted (granted (check-finite ps))
+      (λ f. by-test Accepted (lengths-fit lengths ps)
+      (λ t. record { is = λ q. refl; some = λ q. some-ring lengths ps t })
       (λ t. refused-not Lengths refl))
       (λ f. refused-not (check-finite ps) f))
       (refused-not Odd refl)

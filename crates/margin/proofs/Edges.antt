@@ -2,6 +2,7 @@
 use Prim.Native.Nat.{ℕ, _+_, _-_, _*_, _^_, _≤_, zero-le}
 use mathlib.Core.Path.{_≡_, refl, sym, ap, _∙_, subst}
 use mathlib.Core.Bool.{Bool, true, false, cond, _||_, Bool·beq, false≢true}
+use mathlib.Mathlib.Data.Bool.Basic.{and-elim-left, and-elim-right}
 use native.Mathlib.Nat.{le-trans, le-of-eq, le-antisymm}
 use native.Mathlib.Omega.{arith}
 use borrow.Author.Tests.{eqb-true}
@@ -14,7 +15,6 @@ use Rattle.hypotenuse.proofs.Units.{count-exact}
 use Rattle.hypotenuse.proofs.Poly.{poly}
 use Rattle.plane.specs.declared.PlanarPoint.{PlanarPoint}
 use Rattle.plane.specs.Plane.{same}
-use Rattle.front.proofs.Demand.Choice.{and-left, and-right}
 use Rattle.margins.specs.Far.{over, under, dist, sq, axis-apart, squared-apart, margin-of, Far}
 use Rattle.margins.proofs.Values.{units-order}
 
@@ -26,23 +26,23 @@ same-dist a b c d e = omega arith
 same-sq : (a b c d : ℕ) → a + d ≡ c + b → sq a b ≡ sq c d
 same-sq a b c d e = ap (λ (x : ℕ). x * x) (same-dist a b c d e)
 
-axis-turned : (op up oa ua ob ub k i : ℕ)
+axis-reversed : (op up oa ua ob ub k i : ℕ)
     → sq ((k + i) * (op + ua) + k * (ub + oa)) ((k + i) * (up + oa) + k * (ob + ua)) ≡ sq ((k + i) * (op + ub) + i * (ua + ob)) ((k + i) * (up + ob) + i * (oa + ub))
-axis-turned op up oa ua ob ub k i =
+axis-reversed op up oa ua ob ub k i =
     same-sq ((k + i) * (op + ua) + k * (ub + oa)) ((k + i) * (up + oa) + k * (ob + ua)) ((k + i) * (op + ub) + i * (ua + ob)) ((k + i) * (up + ob) + i * (oa + ub)) (simp poly (omega arith))
 
-turned : (p a b : PlanarPoint) (k i : ℕ) → squared-apart p a b k (k + i) ≡ squared-apart p b a i (k + i)
+reversed : (p a b : PlanarPoint) (k i : ℕ) → squared-apart p a b k (k + i) ≡ squared-apart p b a i (k + i)
 unfolding squared-apart axis-apart
-turned p a b k i =
+reversed p a b k i =
     rw (
-      axis-turned (over (p .east)) (under (p .east)) (over (a .east)) (under (a .east)) (over (b .east)) (under (b .east)) k i,
-      axis-turned (over (p .north)) (under (p .north)) (over (a .north)) (under (a .north)) (over (b .north)) (under (b .north)) k i,
+      axis-reversed (over (p .east)) (under (p .east)) (over (a .east)) (under (a .east)) (over (b .east)) (under (b .east)) k i,
+      axis-reversed (over (p .north)) (under (p .north)) (over (a .north)) (under (a .north)) (over (b .north)) (under (b .north)) k i,
     ) refl
 
-pub far-turned : (D M : ℕ) (p a b : PlanarPoint) → Far D M p a b → Far D M p b a
-far-turned D M p a b h i j l z =
+pub far-reversed : (D M : ℕ) (p a b : PlanarPoint) → Far D M p a b → Far D M p b a
+far-reversed D M p a b h i j l z =
     subst (λ (t : ℕ). margin-of D M * margin-of D M * (t * t) ≤ 10 ^ 30 * squared-apart p b a i t) (whole i j l)
-    (le-trans (h (j - i) (j - i + i) (omega arith) (omega arith)) (le-of-eq (ap (λ (x : ℕ). 10 ^ 30 * x) (turned p a b (j - i) i))))
+    (le-trans (h (j - i) (j - i + i) (omega arith) (omega arith)) (le-of-eq (ap (λ (x : ℕ). 10 ^ 30 * x) (reversed p a b (j - i) i))))
   where
     whole : (i j : ℕ) → i ≤ j → j - i + i ≡ j
     whole i j l = omega arith
@@ -106,9 +106,9 @@ equal-units (fin s m e) (inf t) f g h = absurd (false≢true h)
 equal-units (fin s m e) (fin t n d) f g h =
     let a : ℕ = m * up e * down d in
     let b : ℕ = n * up d * down e in
-    let level : a ≡ b = eqb-true a b (and-left (eqb a b) (Bool·beq s t || eqb a 0) h) in
+    let level : a ≡ b = eqb-true a b (and-elim-left (eqb a b) (Bool·beq s t || eqb a 0) h) in
     let c : count m e ≡ count n d = counts-equal m e n d s t f g level in
-    let w = signs s t (count m e) (eqb a 0) (and-right (eqb a b) (Bool·beq s t || eqb a 0) h) (λ z. count-none m e n d s t f g (eqb-true a 0 z)) in
+    let w = signs s t (count m e) (eqb a 0) (and-elim-right (eqb a b) (Bool·beq s t || eqb a 0) h) (λ z. count-none m e n d s t f g (eqb-true a 0 z)) in
     record { above = w .0 ∙ ap (λ (x : ℕ). cond t 0 x) c; below = w .1 ∙ ap (λ (x : ℕ). cond t x 0) c }
 
 pub record SamePoint (a b : PlanarPoint) : Type 0 where
@@ -119,8 +119,8 @@ pub equal-points : (a b : PlanarPoint) → T (fits binary64 (a .east)) → T (fi
     → SamePoint a b
 unfolding same
 equal-points a b ae an be bn h = record {
-  east = equal-units (a .east) (b .east) ae be (and-left (eq (a .east) (b .east)) (eq (a .north) (b .north)) h);
-  north = equal-units (a .north) (b .north) an bn (and-right (eq (a .east) (b .east)) (eq (a .north) (b .north)) h);
+  east = equal-units (a .east) (b .east) ae be (and-elim-left (eq (a .east) (b .east)) (eq (a .north) (b .north)) h);
+  north = equal-units (a .north) (b .north) an bn (and-elim-right (eq (a .east) (b .east)) (eq (a .north) (b .north)) h);
 }
 
 apart-same : (p a b c : PlanarPoint) (i j : ℕ) → SamePoint b c → squared-apart p a b i j ≡ squared-apart p a c i j

@@ -5,15 +5,15 @@ use mathlib.Core.Bool.{Bool, true, false, true≢false}
 use mathlib.Core.List.{List}
 use Prim.Native.Nat.{ℕ, _<_, _≤_}
 use lib.Ieee.{Float, nan, inf, fin, lt, le}
+use Rattle.math.proofs.Order.{lt-from, lt-number}
 use Rattle.math.specs.Number.{infinity, open-number}
 use Rattle.plane.specs.declared.PlanarPoint.{PlanarPoint}
 use Rattle.plane.specs.Points.{distance-to}
 use Rattle.segment.specs.Segments.{closest-on-segment}
 use Rattle.ring.specs.Ring.{vertex-at, edge-end}
-use Rattle.near.specs.Near.{gap-to, nearest}
-use Rattle.near.specs.Least.{Footed}
-use Rattle.near.proofs.Least.{not-below, nearest-least, nearest-foot}
-use Rattle.clear.proofs.Magnitudes.{lt-from, lt-number}
+use Rattle.ring_near.specs.Near.{gap-to, nearest}
+use Rattle.ring_near.specs.Least.{Footed}
+use Rattle.ring_near.proofs.Least.{not-below, nearest-least, nearest-foot}
 use Rattle.region.specs.declared.Region.{Region}
 use Rattle.region.specs.Regions.{ring-points, ring-count, distance-to-boundary}
 use Rattle.region.proofs.Least.{boundary-least}

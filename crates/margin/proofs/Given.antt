@@ -5,6 +5,7 @@ use mathlib.Core.Path.{_≡_, refl, sym, ap, _∙_, subst}
 use mathlib.Core.Logic.{inl}
 use mathlib.Core.Bool.{true, false, false≢true}
 use mathlib.Core.List.{List}
+use mathlib.Mathlib.Data.Bool.Basic.{and-elim-left, and-elim-right}
 use lib.ListN.{length, length-replicate}
 use lib.Ieee.{Float}
 use Rattle.error.specs.declared.Refusal.{Refusal}
@@ -12,15 +13,14 @@ use Rattle.error.specs.declared.Refusal.the-variants.{Shape}
 use Rattle.error.specs.Refusals.{number, values, granted}
 use Rattle.math.specs.Number.{zero-float}
 use Rattle.ring.specs.Ring.{vertex-at, source, stored-at}
-use Rattle.loops.specs.Loop.{rounds}
-use Rattle.loops.proofs.Laws.{rounds-keep}
+use Rattle.base.specs.Loop.{rounds}
+use Rattle.base.proofs.Laws.{rounds-keep}
+use Rattle.base.proofs.Choices.{by-cases, by-test}
+use Rattle.base.proofs.Tests.{all-pass}
 use Rattle.margins.specs.Far.{over, magnitude}
-use Rattle.polygon.specs.declared.Outline.{Outline}
-use Rattle.polygon.specs.Outlines.{proper}
-use Rattle.front.proofs.Demand.Occ.{by-cases}
-use Rattle.front.proofs.Demand.Choice.{and-left, and-right}
+use Rattle.outline.specs.declared.Outline.{Outline}
+use Rattle.outline.specs.Outlines.{proper}
 use Rattle.front.proofs.Demand.Shapes.{proper-is}
-use Rattle.offset.proofs.Choices.{either, all-pass}
 use Rattle.region.specs.declared.Region.{Region}
 use Rattle.region.specs.declared.NewRegion.{NewRegion}
 use Rattle.region.specs.Regions.{no-region, ring-points, ring-count, with-outer, with-hole, region-extent}
@@ -86,13 +86,13 @@ module _ (o : Outline) (hs : List Outline) (all : (l : ℕ) → Doubles ((given-
   module _ (q : proper-given o hs ≡ true) where
     outer-proper : proper 128 (o .points) (o .count) ≡ true
     unfolding proper-given
-    outer-proper = and-left (proper 128 (o .points) (o .count)) (rounds (proper-given-step hs) (length hs) true) q
+    outer-proper = and-elim-left (proper 128 (o .points) (o .count)) (rounds (proper-given-step hs) (length hs) true) q
 
     hole-proper : (l : ℕ) → l < length hs → proper 32 ((given-hole hs l) .points) ((given-hole hs l) .count) ≡ true
     unfolding proper-given proper-given-step
     hole-proper =
         all-pass (proper-given-step hs) (λ i. proper 32 ((given-hole hs i) .points) ((given-hole hs i) .count)) (λ i s. refl) (length hs)
-        (and-right (proper 128 (o .points) (o .count)) (rounds (proper-given-step hs) (length hs) true) q)
+        (and-elim-right (proper 128 (o .points) (o .count)) (rounds (proper-given-step hs) (length hs) true) q)
 
     given-all : GivenTo (length hs) (given-rings o hs)
     unfolding given-rings
@@ -127,8 +127,8 @@ module _ (o : Outline) (hs : List Outline) (all : (l : ℕ) → Doubles ((given-
   unfolding region-given region-if granted number values
   region-of-given =
       let r : Region = given-rings o hs in
-      either Given (proper-given o hs)
-      (λ q. either Given (granted (check-region r)) (λ g. record { given = λ z few. given-stands q r (given-all q) few }) (λ g. refused-given (check-region r) g))
+      by-test Given (proper-given o hs)
+      (λ q. by-test Given (granted (check-region r)) (λ g. record { given = λ z few. given-stands q r (given-all q) few }) (λ g. refused-given (check-region r) g))
       (λ q. refused-given Shape refl)
 
   -- the largest coordinate of its rings is that of the outlines

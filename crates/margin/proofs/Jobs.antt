@@ -1,32 +1,34 @@
 -- The margin of a job's answer: it is an outline's inset or a region's, of the numbers drawn. Assumes nothing.
-use Prim.Native.Nat.{ℕ, _+_, _*_, _%_, _<_}
+use Prim.Native.Nat.{ℕ, _+_, _%_, _<_}
 use native.Mathlib.Omega.{arith}
 use mathlib.Core.Path.{_≡_, refl, sym, ap, _∙_, subst}
 use mathlib.Core.Bool.{Bool, true, false, cond, false≢true}
 use mathlib.Core.List.{List}
-use borrow.Author.Tests.{ltb-true, eqb-true}
-use lib.Dec.{T, ltb, eqb}
+use borrow.Author.Tests.{eqb-true}
+use lib.Dec.{T, eqb}
+use mathlib.Mathlib.Data.Bool.Basic.{and-elim-left}
 use lib.ListN.{getD, length}
 use lib.Ieee.{Float, binary64, fits, lt}
 use Rattle.error.specs.declared.Refusal.{Refusal}
 use Rattle.error.specs.declared.Refusal.the-variants.{Job, Lengths, Odd}
 use Rattle.error.specs.Refusals.{number, values, granted}
 use Rattle.math.specs.Number.{zero-float}
-use Rattle.loops.specs.Loop.{rounds}
+use Rattle.base.specs.Loop.{rounds}
+use Rattle.base.proofs.Choices.{by-test}
 use Rattle.margins.specs.Far.{over}
-use Rattle.polygon.specs.declared.NewOutline.{NewOutline}
-use Rattle.polygon.specs.Outlines.{new-outline, check-finite}
-use Rattle.front.proofs.Demand.Choice.{and-left}
+use Rattle.outline.specs.declared.NewOutline.{NewOutline}
+use Rattle.outline.specs.Outlines.{new-outline, check-finite}
 use Rattle.offset.specs.Offsets.{offset}
-use Rattle.offset.proofs.Choices.{either}
 use Rattle.region.specs.declared.Region.{Region}
 use Rattle.region.specs.declared.NewRegion.{NewRegion}
 use Rattle.region.specs.declared.RegionOffset.{RegionOffset}
 use Rattle.region.specs.Regions.{no-region, ring-points, ring-count, with-outer, region-extent}
-use Rattle.region.specs.Checks.{load-rings, region-loaded, total-step, total}
+use Rattle.region.specs.Checks.{load-rings, region-loaded, total-step, total, lengths-fit}
+use Rattle.region.proofs.LengthsFit.{some-ring}
 use Rattle.region.specs.Insets.{region-inset}
 use Rattle.region.proofs.Loaded.{region-again}
-use Rattle.jobs.specs.Jobs.{job-refused, as-region, job-outline, job-region, job-rings, lengths-fit, job-finite, job-numbers, side-fits, job}
+use Rattle.job.specs.Jobs.{job-refused, as-region, job-outline, job-region, job-rings, job-finite, job-numbers, job}
+use Rattle.format.specs.JobLines.{side-fits}
 use Rattle.margin.specs.Margin.{Doubles, RingFar, Largest}
 use Rattle.margin.specs.Lent.{ring-in}
 use Rattle.margin.specs.Drawn.{DrawnMargin, DrawnRings}
@@ -83,7 +85,7 @@ module _ (d : Float) (lengths : List ℕ) (ps : List Float) (pd : Doubles ps) (f
   outline-keeps one =
       let n : ℕ = getD lengths 0 0 in
       let o : NewOutline = new-outline ps n in
-      either Keeps (granted (o .refusal))
+      by-test Keeps (granted (o .refusal))
       (λ g. record { keeps = λ q. one-ring (with-outer no-region ((offset (o .shape) false d) .shape)) refl one (new-outline-margin ps n d pd fd g q l) })
       (λ g. refused-keeps (o .refusal) g)
 
@@ -95,7 +97,7 @@ module _ (d : Float) (lengths : List ℕ) (ps : List Float) (pd : Doubles ps) (f
       let a : NewRegion = region-loaded (load-rings lengths ps) in
       let r : Region = a .shape in
       let q : Region = (region-inset r d) .shape in
-      either Keeps (granted (a .refusal))
+      by-test Keeps (granted (a .refusal))
       (λ g.
       let s : RegionStands lengths ps r = rings-stand lengths ps some g in
       record {
@@ -105,10 +107,10 @@ module _ (d : Float) (lengths : List ℕ) (ps : List Float) (pd : Doubles ps) (f
       (λ g. refused-keeps (a .refusal) g)
 
   rings-keep : lengths-fit lengths ps ≡ true → Keeps (job-rings false d lengths ps)
-  unfolding job-rings lengths-fit
+  unfolding job-rings
   rings-keep fit =
-      either Keeps (eqb (length lengths) 1) (λ e. outline-keeps (eqb-true (length lengths) 1 e))
-      (λ e. region-keeps (ltb-true 0 (length lengths) (and-left (ltb 0 (length lengths)) (eqb (2 * total lengths) (length ps)) fit)))
+      by-test Keeps (eqb (length lengths) 1) (λ e. outline-keeps (eqb-true (length lengths) 1 e))
+      (λ e. region-keeps (some-ring lengths ps fit))
 
   job-keeps : Keeps (job false d lengths ps)
   unfolding job job-numbers job-finite

@@ -3,26 +3,24 @@ use Prim.Native.Nat.{ℕ, zero, suc, _+_, _*_, _≤_, _<_}
 use mathlib.Core.Path.{_≡_, refl, sym, ap, _∙_, subst}
 use mathlib.Core.Bool.{Bool, true, false, cond, _&&_, false≢true}
 use mathlib.Core.List.{List}
+use mathlib.Mathlib.Data.Bool.Basic.{and-elim-left, and-elim-right}
 use native.Mathlib.Omega.{arith}
 use borrow.Author.Tests.{leb-true}
 use lib.Dec.{leb}
-use lib.ListN.{getD, drop, length, length-set, length-replicate, replicate}
-use lib.Seq.{getD-drop, getD-set-same, getD-set-other}
+use lib.ListN.{getD, drop}
+use lib.Seq.{getD-drop}
 use lib.Ieee.{Float, nan}
 use Rattle.error.specs.declared.Refusal.{Refusal}
 use Rattle.error.specs.Refusals.{granted}
 use Rattle.plane.specs.declared.PlanarPoint.{PlanarPoint}
-use Rattle.loops.specs.Loop.{rounds}
-use Rattle.loops.proofs.Laws.{rounds-keep}
+use Rattle.base.specs.Loop.{rounds}
+use Rattle.base.proofs.Choices.{by-cases, by-test}
 use Rattle.ring.specs.Ring.{vertex-at, edge-end}
 use Rattle.margins.specs.Far.{Far}
-use Rattle.polygon.specs.Outlines.{proper}
-use Rattle.front.proofs.Demand.Occ.{by-cases}
-use Rattle.front.proofs.Demand.Choice.{and-left, and-right}
+use Rattle.outline.specs.Outlines.{proper}
 use Rattle.offset.specs.declared.Offset.{Offset}
 use Rattle.offset.specs.Offsets.{offset}
 use Rattle.offset.specs.Lent.{write-offset, offset-told, offset-write, written-offset}
-use Rattle.offset.proofs.Choices.{either}
 use Rattle.offset.proofs.Lent.{offset-lent}
 use Rattle.region.specs.declared.Region.{Region}
 use Rattle.region.specs.declared.RegionOffset.{RegionOffset}
@@ -30,7 +28,8 @@ use Rattle.region.specs.declared.RegionWritten.{RegionWritten}
 use Rattle.region.specs.Regions.{ring-points, ring-count}
 use Rattle.region.specs.Checks.{total-step, proper-step, proper-region}
 use Rattle.region.specs.Insets.{region-inset}
-use Rattle.region.specs.Queries.{before-step, before, counts-step, ring-counts, no-rings, rings-told, write-inset, inset-told, inset-write, written-inset}
+use Rattle.region.proofs.NineCounts.{counts-told}
+use Rattle.region.specs.Queries.{before-step, before, nine-counts, no-rings, rings-told, write-inset, inset-told, inset-write, written-inset}
 use Rattle.region.proofs.Accepted.{inset-proper}
 use Rattle.region.proofs.Lent.{inset-lent}
 use Rattle.margin.specs.Margin.{RingFar}
@@ -59,7 +58,7 @@ pub record WroteOffset (a : Offset) (u : Refusal) : Type 0 where
 
 pub wrote-offset : (a : Offset) (out : List Float) → WroteOffset a (write-offset a out)
 unfolding write-offset
-wrote-offset a out = either (WroteOffset a) (granted (a .refusal)) (λ g. record { passed = λ q. g }) (λ g. record { passed = λ q. q })
+wrote-offset a out = by-test (WroteOffset a) (granted (a .refusal)) (λ g. record { passed = λ q. g }) (λ g. record { passed = λ q. q })
 
 pub offset-write-margin : OffsetWriteMargin
 unfolding offset-write offset-told
@@ -75,27 +74,11 @@ offset-write-margin o d out od fd g l =
 
 -- the counts that are told are those of the rings
 module _ (r : Region) where
-  record CountsTo (i : ℕ) (s : List ℕ) : Type 0 where
-    size : length s ≡ 9
-    each : i ≤ 9 → (k : ℕ) → k < i → getD s k 0 ≡ ring-count r k
-
-  counts-one : (i : ℕ) (s : List ℕ) → CountsTo i s → CountsTo (suc i) (counts-step r i s)
-  unfolding counts-step
-  counts-one i s h = record {
-    size = length-set s i (ring-count r i) ∙ h .size;
-    each = λ z k l. by-cases k i
-        (λ e. rw e (getD-set-same s i (ring-count r i) 0 (omega (arith, h .size))))
-        (λ e. getD-set-other s i k (ring-count r i) 0 e ∙ h .each (omega arith) k (omega arith));
-  }
-
-  counts-are : (k : ℕ) → r .holes ≤ 8 → k ≤ r .holes → getD (ring-counts r) k 0 ≡ ring-count r k
-  unfolding ring-counts
-  counts-are k e l =
-      rounds-keep (counts-step r) CountsTo (replicate 9 0) (record { size = length-replicate {A = ℕ} 9 0; each = λ z i m. absurd (omega arith) }) counts-one (r .holes + 1)
-      .each (omega arith) k (omega arith)
+  counts-are : (k : ℕ) → r .holes ≤ 8 → k ≤ r .holes → getD (nine-counts r) k 0 ≡ ring-count r k
+  counts-are k e l = counts-told r k (omega arith) (omega arith)
 
   -- and so are the vertices before a ring
-  before-is : r .holes ≤ 8 → (k : ℕ) → k ≤ r .holes → rounds (total-step (ring-counts r)) k 0 ≡ before r k
+  before-is : r .holes ≤ 8 → (k : ℕ) → k ≤ r .holes → rounds (total-step (nine-counts r)) k 0 ≡ before r k
   unfolding before before-step total-step rounds
   before-is e zero l = refl
   before-is e (suc k) l = omega (arith, before-is e k (omega arith), counts-are k e (omega arith))
@@ -104,25 +87,25 @@ pub few-holes : (r : Region) → proper-region r ≡ true → r .holes ≤ 8
 unfolding proper-region
 few-holes r q =
     leb-true (r .holes) 8
-    (and-left (leb (r .holes) 8) (rounds (proper-step r) (r .holes) true) (and-right (proper 128 (r .outer .points) (r .outer .count)) (leb (r .holes) 8 && rounds (proper-step r) (r .holes) true) q))
+    (and-elim-left (leb (r .holes) 8) (rounds (proper-step r) (r .holes) true) (and-elim-right (proper 128 (r .outer .points) (r .outer .count)) (leb (r .holes) 8 && rounds (proper-step r) (r .holes) true) q))
 
 record WroteInset (a : RegionOffset) (u : Refusal) : Type 0 where
   passed : granted u ≡ true → granted (a .refusal) ≡ true
 
 wrote-inset : (a : RegionOffset) (out : List Float) → WroteInset a (write-inset a out)
 unfolding write-inset
-wrote-inset a out = either (WroteInset a) (granted (a .refusal)) (λ g. record { passed = λ q. g }) (λ g. record { passed = λ q. q })
+wrote-inset a out = by-test (WroteInset a) (granted (a .refusal)) (λ g. record { passed = λ q. g }) (λ g. record { passed = λ q. q })
 
 -- what is told of rings that were written
 record Told (r : Region) (u : Refusal) (w : RegionWritten) : Type 0 where
   asked : granted (w .refusal) ≡ true → granted u ≡ true
   rings : granted (w .refusal) ≡ true → w .rings ≡ r .holes + 1
-  counts : granted (w .refusal) ≡ true → w .counts ≡ ring-counts r
+  counts : granted (w .refusal) ≡ true → w .counts ≡ nine-counts r
 
 told-of : (r : Region) (u : Refusal) → Told r u (rings-told r u)
 unfolding rings-told no-rings
 told-of r u =
-    either (Told r u) (granted u) (λ e. record { asked = λ q. e; rings = λ q. refl; counts = λ q. refl })
+    by-test (Told r u) (granted u) (λ e. record { asked = λ q. e; rings = λ q. refl; counts = λ q. refl })
     (λ e. record { asked = λ q. q; rings = λ q. absurd (false≢true (sym e ∙ q)); counts = λ q. absurd (false≢true (sym e ∙ q)) })
 
 -- a ring's numbers that stand from a place on are its vertices

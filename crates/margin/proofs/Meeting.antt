@@ -13,16 +13,17 @@ use Rattle.segment.specs.Segments.{segments-meet}
 use Rattle.segment.proofs.Theorem.{meet-iff-shared}
 use Rattle.ring.specs.Ring.{vertex-at, edge-end, source, stored-at}
 use Rattle.ring.proofs.Vertices.{at-ends}
-use Rattle.simple.specs.declared.Crossing.the-variants.{Simple}
-use Rattle.simple.specs.Simple.{check-simple}
-use Rattle.simple.proofs.Exact.{simple-exact}
-use Rattle.meet.specs.Meet.{rings-meet}
-use Rattle.meet.proofs.Exact.{rings-meet-exact}
-use Rattle.polygon.specs.declared.Outline.{Outline}
-use Rattle.polygon.specs.declared.NewOutline.{NewOutline}
-use Rattle.polygon.specs.Outlines.{new-outline, outline}
+use Rattle.ring_cross.specs.declared.Crossing.the-variants.{Simple}
+use Rattle.ring_cross.specs.Simple.{check-simple}
+use Rattle.ring_cross.proofs.SimpleExact.{simple-exact}
+use Rattle.ring_cross.specs.Meet.{rings-meet}
+use Rattle.ring_cross.proofs.MeetExact.{rings-meet-exact}
+use Rattle.outline.specs.declared.Outline.{Outline}
+use Rattle.outline.specs.declared.NewOutline.{NewOutline}
+use Rattle.outline.specs.Outlines.{new-outline, outline}
+use Rattle.outline.proofs.Outlines.{outline-sound, outline-proper}
 use Rattle.offset.specs.Offsets.{offset}
-use Rattle.offset.proofs.Accepted.{outline-sound, outline-proper, offset-proper, offset-accepted}
+use Rattle.offset.proofs.Accepted.{offset-proper, offset-accepted}
 use Rattle.region.specs.declared.Region.{Region}
 use Rattle.region.specs.Regions.{ring-points, ring-count}
 use Rattle.region.specs.Insets.{region-inset}

@@ -1,17 +1,18 @@
 -- R-10 for outlines: each vertex of an accepted inset keeps the margin from each edge of its source in true distance. Assumes nothing.
 use mathlib.Core.Path.{_≡_, refl, sym, ap, _∙_}
 use mathlib.Core.Bool.{Bool, true, false, false≢true}
+use mathlib.Mathlib.Data.Bool.Basic.{eq-true-of-not-eq-false}
 use lib.Ieee.{Float}
 use Rattle.error.specs.declared.Refusal.{Refusal}
 use Rattle.error.specs.declared.Refusal.the-variants.{Shape}
 use Rattle.error.specs.Refusals.{number, values, granted}
 use Rattle.ring.specs.Ring.{vertex-at}
-use Rattle.measures.specs.Measures.{extent}
-use Rattle.polygon.specs.declared.Outline.{Outline}
-use Rattle.polygon.specs.Outlines.{proper, no-outline}
+use Rattle.ring_measure.specs.Measures.{extent}
+use Rattle.outline.specs.declared.Outline.{Outline}
+use Rattle.outline.specs.Outlines.{proper, no-outline}
 use Rattle.offset.specs.declared.Offset.{Offset}
 use Rattle.offset.specs.Offsets.{check-distance, offset-plain, offset}
-use Rattle.offset.proofs.Answers.{offset-before}
+use Rattle.offset.proofs.DemandAnswered.{offset-before}
 use Rattle.offset.proofs.Accepted.{offset-proper, offset-accepted}
 use Rattle.margin.specs.Margin.{OffsetMargin}
 use Rattle.margin.proofs.Sizes.{Sound, proper-sound, distance-moved}
@@ -19,11 +20,6 @@ use Rattle.margin.proofs.Extents.{extent-value, extent-largest, extent-
 use Rattle.margin.proofs.Gaps.{gap-reached}
 use Rattle.margin.proofs.Rings.{asked, ring-far}
 use Rattle.margin.proofs.DoublesKept.{offset-doubles}
-
--- a test that is not failed is passed
-pub passed : (b : Bool) → (b ≡ false → ⊥) → b ≡ true
-passed true h = refl
-passed false h = absurd (h refl)
 
 -- an accepted offset: its source is past 21, and its distance past 13 and 14
 module _ (o : Outline) (outward : Bool) (d : Float) (g : granted ((offset o outward d) .refusal) ≡ true) where
@@ -33,11 +29,11 @@ module _ (o : Outline) (outward : Bool) (d : Float) (g : granted ((offset o outw
 
   pub source-proper : proper 128 (o .points) (o .count) ≡ true
   unfolding granted number values
-  source-proper = passed (proper 128 (o .points) (o .count)) (λ h. refused-not Shape refl (offset-before o outward d .improper h))
+  source-proper = eq-true-of-not-eq-false {b = proper 128 (o .points) (o .count)} (λ h. refused-not Shape refl (offset-before o outward d .improper h))
 
   distance-granted : granted (check-distance d) ≡ true
   distance-granted =
-      passed (granted (check-distance d)) (λ h. refused-not (check-distance d) h (offset-before o outward d .refused source-proper h))
+      eq-true-of-not-eq-false {b = granted (check-distance d)} (λ h. refused-not (check-distance d) h (offset-before o outward d .refused source-proper h))
 
 pub offset-margin : OffsetMargin
 offset-margin o d doubles fits g above =

@@ -2,6 +2,7 @@
 use mathlib.Core.Path.{_≡_, refl, sym, _∙_, subst}
 use mathlib.Core.Logic.{_⊎_, inl, inr}
 use mathlib.Core.Bool.{true, false, _&&_}
+use mathlib.Mathlib.Data.Bool.Basic.{and-elim-left, and-elim-right}
 use Prim.Native.Nat.{ℕ, zero, suc, _+_, _*_, _^_, _≤_, zero-le}
 use native.Mathlib.Nat.{le-trans, le-of-eq, le-refl}
 use native.Mathlib.Omega.{arith}
@@ -10,19 +11,19 @@ use lib.Seq.{getD-drop}
 use lib.Ieee.{Float, nan, binary64, fits}
 use lib.Ieee.Exact.{HasValue}
 use Rattle.math.specs.Number.{fmax}
-use Rattle.loops.specs.Loop.{rounds}
+use Rattle.base.specs.Loop.{rounds}
+use Rattle.base.proofs.Choices.{by-cases}
+use Rattle.base.proofs.Tests.{all-pass}
 use Rattle.margins.specs.Far.{over}
-use Rattle.measures.specs.Measures.{extent}
-use Rattle.polygon.specs.Outlines.{proper}
-use Rattle.front.proofs.Demand.Occ.{by-cases}
-use Rattle.front.proofs.Demand.Choice.{and-left, and-right}
-use Rattle.offset.proofs.Choices.{all-pass}
+use Rattle.ring_measure.specs.Measures.{extent}
+use Rattle.ring_measure.proofs.Extents.{Max, fmax-is}
+use Rattle.outline.specs.Outlines.{proper}
 use Rattle.region.specs.declared.Region.{Region}
 use Rattle.region.specs.Regions.{hole-points, hole-count, ring-points, ring-count, extent-step, region-extent}
 use Rattle.region.specs.Checks.{proper-step, proper-region}
 use Rattle.margin.specs.Margin.{Doubles, RegionDoubles, LargestOfRings, RegionExtentLargest}
 use Rattle.margin.proofs.Sizes.{over-is, Sound, proper-sound}
-use Rattle.margin.proofs.Extents.{Max, fmax-is, extent-value, extent-largest}
+use Rattle.margin.proofs.Extents.{extent-value, extent-largest}
 
 module _ (r : Region) (d : RegionDoubles r) (q : proper-region r ≡ true) where
   -- ---- each ring passes 21
@@ -36,12 +37,12 @@ module _ (r : Region) (d : RegionDoubles r) (q : proper-region r ≡ true) where
   unfolding proper-region proper-step ring-points ring-count
   ring-sound zero h =
       proper-sound 128 (r .outer .points) (r .outer .count) (ring-doubles 0)
-      (and-left (proper 128 (r .outer .points) (r .outer .count)) (leb (r .holes) 8 && rounds (proper-step r) (r .holes) true) q)
+      (and-elim-left (proper 128 (r .outer .points) (r .outer .count)) (leb (r .holes) 8 && rounds (proper-step r) (r .holes) true) q)
   ring-sound (suc l) h =
       proper-sound 32 (hole-points r l) (hole-count r l) (ring-doubles (suc l))
       (all-pass (proper-step r) (λ i. proper 32 (hole-points r i) (hole-count r i)) (λ i s. refl) (r .holes)
-      (and-right (leb (r .holes) 8) (rounds (proper-step r) (r .holes) true)
-      (and-right (proper 128 (r .outer .points) (r .outer .count)) (leb (r .holes) 8 && rounds (proper-step r) (r .holes) true) q))
+      (and-elim-right (leb (r .holes) 8) (rounds (proper-step r) (r .holes) true)
+      (and-elim-right (proper 128 (r .outer .points) (r .outer .count)) (leb (r .holes) 8 && rounds (proper-step r) (r .holes) true) q))
       l (omega arith))
 
   -- ---- the extent, after k holes

@@ -1,6 +1,7 @@
 -- R-10 for regions: each vertex of an accepted inset keeps the margin from each edge of each ring of its source in true distance. Assumes nothing.
 use mathlib.Core.Path.{_≡_, refl, sym, ap, _∙_}
 use mathlib.Core.Bool.{true, false, false≢true}
+use mathlib.Mathlib.Data.Bool.Basic.{eq-true-of-not-eq-false}
 use lib.Ieee.{Float}
 use Rattle.error.specs.declared.Refusal.{Refusal}
 use Rattle.error.specs.declared.Refusal.the-variants.{Shape}
@@ -12,14 +13,13 @@ use Rattle.region.specs.declared.RegionOffset.{RegionOffset}
 use Rattle.region.specs.Regions.{no-region, ring-points, ring-count, region-extent}
 use Rattle.region.specs.Checks.{proper-region}
 use Rattle.region.specs.Insets.{region-plain, region-inset}
-use Rattle.region.proofs.Answers.{inset-before}
+use Rattle.region.proofs.DemandAnswered.{inset-before}
 use Rattle.region.proofs.Accepted.{inset-proper, inset-accepted}
 use Rattle.margin.specs.Margin.{InsetMargin}
 use Rattle.margin.proofs.Sizes.{distance-moved}
 use Rattle.margin.proofs.RegionExtents.{ring-sound, region-extent-value, region-extent-largest, region-extent-small}
 use Rattle.margin.proofs.Gaps.{boundary-reached}
 use Rattle.margin.proofs.Rings.{asked, ring-far}
-use Rattle.margin.proofs.Outlines.{passed}
 use Rattle.margin.proofs.DoublesKept.{inset-doubles}
 
 -- an accepted inset: its source is past 21, and its distance past 13 and 14
@@ -30,10 +30,10 @@ module _ (r : Region) (d : Float) (g : granted ((region-inset r d) .refusal) ≡
 
   pub source-proper : proper-region r ≡ true
   unfolding granted number values
-  source-proper = passed (proper-region r) (λ h. refused-not Shape refl (inset-before r d .improper h))
+  source-proper = eq-true-of-not-eq-false {b = proper-region r} (λ h. refused-not Shape refl (inset-before r d .improper h))
 
   distance-granted : granted (check-distance d) ≡ true
-  distance-granted = passed (granted (check-distance d)) (λ h. refused-not (check-distance d) h (inset-before r d .refused source-proper h))
+  distance-granted = eq-true-of-not-eq-false {b = granted (check-distance d)} (λ h. refused-not (check-distance d) h (inset-before r d .refused source-proper h))
 
 pub inset-margin : InsetMargin
 inset-margin r d doubles fits g above k l a b =

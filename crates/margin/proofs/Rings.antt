@@ -15,8 +15,8 @@ use Rattle.margins.proofs.Points.{Point, Reach, Least, far-edge}
 use Rattle.margins.proofs.Reached.{least-of}
 use Rattle.ring.specs.Ring.{vertex-at, following, edge-end}
 use Rattle.ring.proofs.Vertices.{following-lt}
-use Rattle.near.specs.Near.{gap-to}
-use Rattle.polygon.specs.Outlines.{relative-tolerance}
+use Rattle.ring_near.specs.Near.{gap-to}
+use Rattle.outline.specs.Outlines.{relative-tolerance}
 use Rattle.margin.specs.Margin.{RingFar}
 use Rattle.margin.proofs.Sizes.{Sound, Moved, fine-sum}
 use Rattle.margin.proofs.Gaps.{edge-gap}

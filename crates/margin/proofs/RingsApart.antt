@@ -2,16 +2,16 @@
 use Prim.Native.Nat.{ℕ, zero, suc, _+_, _-_, _≤_, _<_}
 use native.Mathlib.Omega.{arith}
 use mathlib.Core.Path.{_≡_, refl, sym, ap, _∙_, subst}
-use mathlib.Core.Bool.{Bool, true, false, cond, not, _&&_, _||_, false≢true}
-use borrow.Author.Tests.{eqb-true, eqb-false}
+use mathlib.Core.Bool.{Bool, true, false, cond, not, false≢true}
+use mathlib.Mathlib.Data.Bool.Basic.{and-elim-right, or-eq-false-eq-eq-false-and-eq-false}
+use borrow.Author.Tests.{eqb-true, eqb-false, not-true}
 use lib.Dec.{eqb, leb}
 use Rattle.error.specs.declared.Refusal.{Refusal}
 use Rattle.error.specs.declared.Refusal.the-variants.{Granted, HoleOutside, HolesTouch, ManyHoles}
 use Rattle.error.specs.Refusals.{number, values, granted}
-use Rattle.loops.specs.Loop.{rounds}
-use Rattle.loops.proofs.Laws.{rounds-keep}
-use Rattle.meet.specs.Meet.{rings-meet}
-use Rattle.front.proofs.Demand.Choice.{and-right}
+use Rattle.base.specs.Loop.{rounds}
+use Rattle.base.proofs.Laws.{rounds-keep}
+use Rattle.ring_cross.specs.Meet.{rings-meet}
 use Rattle.offset.specs.Clear.{every-vertex}
 use Rattle.region.specs.declared.Region.{Region}
 use Rattle.region.specs.Regions.{ring-points, ring-count, hole-points, hole-count}
@@ -39,14 +39,6 @@ asked-no : (t : Bool) (u : Refusal) → granted u ≡ false → granted (cond t 
 asked-no true u r e = absurd (false≢true (sym r ∙ e))
 asked-no false u r e = refl
 
-not-true : (b : Bool) → not b ≡ true → b ≡ false
-not-true true e = absurd (false≢true e)
-not-true false e = refl
-
-or-none : (a b : Bool) → (a || b) ≡ false → a ≡ false
-or-none true b e = absurd (false≢true (sym e))
-or-none false b e = refl
-
 module _ (r : Region) (ok : check-region r ≡ Granted) where
   -- both walks were gone through
   both-granted : (granted (check-holes r) ≡ true) × (granted (check-apart r) ≡ true)
@@ -68,7 +60,7 @@ module _ (r : Region) (ok : check-region r ≡ Granted) where
       (all-granted (λ (j : ℕ). cond (hole-free (r .outer .points) (r .outer .count) (hole-points r j) (hole-count r j)) Granted (HoleOutside j))
       (hole-step r) (λ j s. refl) (r .holes) (both-granted .0) k l) in
       not-true (rings-meet (r .outer .points) (r .outer .count) (hole-points r k) (hole-count r k))
-      (and-right (every-vertex (inside-of (r .outer .points) (r .outer .count)) (hole-points r k) (hole-count r k))
+      (and-elim-right (every-vertex (inside-of (r .outer .points) (r .outer .count)) (hole-points r k) (hole-count r k))
       (not (rings-meet (r .outer .points) (r .outer .count) (hole-points r k) (hole-count r k))) yes)
 
   -- 12
@@ -79,8 +71,8 @@ module _ (r : Region) (ok : check-region r ≡ Granted) where
       let row = all-granted (λ (j : ℕ). rounds (second-step r j) (r .holes - (j + 1)) Granted) (first-step r) (λ j s. refl) (r .holes) (both-granted .1) i m in
       let touch : ℕ → Bool = λ (j : ℕ). holes-touch (hole-points r i) (hole-count r i) (hole-points r (i + 1 + j)) (hole-count r (i + 1 + j)) in
       let one = all-granted (λ (j : ℕ). cond (touch j) (HolesTouch i (i + 1 + j)) Granted) (second-step r i) (λ j s. refl) (r .holes - (i + 1)) row k l in
-      or-none (rings-meet (hole-points r i) (hole-count r i) (hole-points r (i + 1 + k)) (hole-count r (i + 1 + k))) _
-      (asked-no (touch k) (HolesTouch i (i + 1 + k)) refl one)
+      or-eq-false-eq-eq-false-and-eq-false (rings-meet (hole-points r i) (hole-count r i) (hole-points r (i + 1 + k)) (hole-count r (i + 1 + k))) _ .0
+      (asked-no (touch k) (HolesTouch i (i + 1 + k)) refl one) .0
 
   pub rings-apart : (k l : ℕ) → k < l → l ≤ r .holes → rings-meet (ring-points r k) (ring-count r k) (ring-points r l) (ring-count r l) ≡ false
   unfolding ring-points ring-count

@@ -1,31 +1,31 @@
 -- What 21, 13 and 14 say in units: coordinates of at most 1e9, a distance of at most 1e12, and with them 1 + distance + extent of at most
 -- 2 ^ 41. Assumes nothing.
 use mathlib.Core.Path.{_≡_, refl, ap, _∙_}
-use mathlib.Core.Bool.{Bool, true, false, cond, _&&_, true≢false, false≢true, _||_}
+use mathlib.Core.Bool.{Bool, true, false, cond, _&&_, false≢true}
 use mathlib.Core.List.{List}
+use mathlib.Mathlib.Data.Bool.Basic.{and-elim-left, and-elim-right}
 use Prim.Native.Nat.{ℕ, _+_, _*_, _^_, _≤_, _<_}
-use native.Mathlib.Nat.{le-trans, le-of-eq, le-of-lt, add-le-add}
+use native.Mathlib.Nat.{le-trans, add-le-add}
 use native.Mathlib.Omega.{arith}
-use borrow.Author.Tests.{ltb-true, eqb-true, leb-true}
-use lib.Dec.{T, ltb, eqb, leb, leb→le}
+use borrow.Author.Tests.{leb-true}
+use lib.Dec.{T, leb, leb→le}
 use lib.ListN.{getD}
-use lib.Ieee.{Float, nan, inf, fin, binary64, up, down, fits, lt, le, eq}
+use lib.Ieee.{Float, nan, inf, fin, binary64, down, fits, lt, le, eq}
 use lib.Ieee.Exact.{HasValue}
-use lib.Ieee.Fits.{down-pos}
+use Rattle.base.proofs.Choices.{by-test}
+use Rattle.base.proofs.Tests.{all-pass}
 use Rattle.hypotenuse.specs.Hypot.{count}
 use Rattle.hypotenuse.proofs.Units.{count-exact}
 use Rattle.math.specs.Number.{zero-float, finite, abs}
+use Rattle.math.proofs.Ranks.{le-most}
 use Rattle.error.specs.declared.Refusal.{Refusal}
 use Rattle.error.specs.Refusals.{number, values, granted}
 use Rattle.margins.specs.Far.{over, under, magnitude}
 use Rattle.margins.proofs.Units.{over-value}
-use Rattle.margins.proofs.Values.{units-order}
-use Rattle.ringcheck.specs.Checks.{max-coordinate}
-use Rattle.polygon.specs.Outlines.{in-range-step, in-range, proper}
-use Rattle.front.proofs.Demand.Choice.{and-left, and-right}
+use Rattle.ring_check.specs.Checks.{max-coordinate}
+use Rattle.outline.specs.Outlines.{in-range-step, in-range, proper}
 use Rattle.offset.specs.Offsets.{max-distance, check-distance}
-use Rattle.offset.proofs.Choices.{either, all-pass}
-use Rattle.offset.proofs.Answers.{distance-finite}
+use Rattle.offset.proofs.DemandAnswered.{distance-finite}
 use Rattle.margin.specs.Margin.{Doubles}
 
 -- ---- values
@@ -49,25 +49,6 @@ abs-is (fin s m e) f h = (refl, count-exact s m e f .1 ∙ ap (λ (x : ℕ). x *
         plain : (c : ℕ) → c ≡ c + 0
         plain c = omega arith
 
-at-most : (a b : ℕ) → (ltb a b || (eqb a b && true)) ≡ true → a ≤ b
-at-most a b h = go (ltb a b) (eqb a b) refl refl h
-  where
-    go : (s t : Bool) → ltb a b ≡ s → eqb a b ≡ t → (s || (t && true)) ≡ true → a ≤ b
-    go true t e f h = le-of-lt (ltb-true a b e)
-    go false true e f h = le-of-eq (eqb-true a b f)
-    go false false e f h = absurd (false≢true h)
-
-pub le-units : (x y : Float) (a b : ℕ) → HasValue x false a (2 ^ 1074) → HasValue y false b (2 ^ 1074) → le x y ≡ true → a ≤ b
-unfolding le lt eq
-le-units nan y a b v w h = absurd v
-le-units (inf s) y a b v w h = absurd v
-le-units (fin s m e) nan a b v w h = absurd w
-le-units (fin s m e) (inf t) a b v w h = absurd w
-le-units (fin true m e) (fin t n d) a b v w h = absurd (true≢false (v .0))
-le-units (fin false m e) (fin true n d) a b v w h = absurd (true≢false (w .0))
-le-units (fin false m e) (fin false n d) a b v w h =
-    units-order (m * up e) (down e) (n * up d) (down d) a b (2 ^ 1074) (down-pos e) (down-pos d) (v .1) (w .1) (at-most (m * up e * down d) (n * up d * down e) h)
-
 -- ---- question 21
 
 le-finite : (x : Float) → le (abs x) max-coordinate ≡ true → finite x ≡ true
@@ -85,7 +66,7 @@ pub record Fine (x : Float) : Type 0 where
   pub size : magnitude x ≤ 1000000000 * 2 ^ 1074
 
 fine-of : (x : Float) → T (fits binary64 x) → le (abs x) max-coordinate ≡ true → Fine x
-fine-of x f h = record { finite = le-finite x h; size = le-units (abs x) max-coordinate (magnitude x) (1000000000 * 2 ^ 1074) (abs-is x f (le-finite x h)) coordinate-value h }
+fine-of x f h = record { finite = le-finite x h; size = le-most (abs x) max-coordinate (magnitude x) (1000000000 * 2 ^ 1074) (abs-is x f (le-finite x h)) coordinate-value h }
 
 -- a ring past 21: it has vertices, and their numbers are doubles of at most 1e9
 pub record Sound (ps : List Float) (n : ℕ) : Type 0 where
@@ -96,8 +77,8 @@ pub record Sound (ps : List Float) (n : ℕ) : Type 0 where
 pub proper-sound : (room : ℕ) (ps : List Float) (n : ℕ) → Doubles ps → proper room ps n ≡ true → Sound ps n
 unfolding proper in-range in-range-step
 proper-sound room ps n d q =
-    let three : 3 ≤ n = leb-true 3 n (and-left (leb 3 n) (leb n room && in-range ps n) q) in
-    let all : in-range ps n ≡ true = and-right (leb n room) (in-range ps n) (and-right (leb 3 n) (leb n room && in-range ps n) q) in
+    let three : 3 ≤ n = leb-true 3 n (and-elim-left (leb 3 n) (leb n room && in-range ps n) q) in
+    let all : in-range ps n ≡ true = and-elim-right (leb n room) (in-range ps n) (and-elim-right (leb 3 n) (leb n room && in-range ps n) q) in
     record {
       doubles = d;
       fine = λ k l.
@@ -120,7 +101,7 @@ unfolding check-distance granted number values
 distance-near d = go .is
   where
     go : Near d (check-distance d)
-    go = either (Near d) (finite d && le d max-distance) (λ h. record { is = λ q. and-right (finite d) (le d max-distance) h }) (λ h. record { is = λ q. absurd (false≢true q) })
+    go = by-test (Near d) (finite d && le d max-distance) (λ h. record { is = λ q. and-elim-right (finite d) (le d max-distance) h }) (λ h. record { is = λ q. absurd (false≢true q) })
 
 above-value : (d : Float) → T (fits binary64 d) → finite d ≡ true → lt zero-float d ≡ true → HasValue d false (over d) (2 ^ 1074)
 unfolding over finite lt lib.Ieee.ofBits
@@ -136,7 +117,7 @@ pub record Moved (d : Float) : Type 0 where
 pub distance-moved : (d : Float) → T (fits binary64 d) → granted (check-distance d) ≡ true → lt zero-float d ≡ true → Moved d
 distance-moved d f g l =
     let v : HasValue d false (over d) (2 ^ 1074) = above-value d f (distance-finite d g) l in
-    record { value = v; size = le-units d max-distance (over d) (1000000000000 * 2 ^ 1074) v distance-value (distance-near d g) }
+    record { value = v; size = le-most d max-distance (over d) (1000000000000 * 2 ^ 1074) v distance-value (distance-near d g) }
 
 pub fine-sum : (D M : ℕ) → D ≤ 1000000000000 * 2 ^ 1074 → M ≤ 1000000000 * 2 ^ 1074 → 2 ^ 1074 + D + M ≤ 2 ^ 1115
 fine-sum D M h k = le-trans (add-le-add (first (2 ^ 1074) D (1000000000000 * 2 ^ 1074) h) k) (leb→le (2 ^ 1074 + 1000000000000 * 2 ^ 1074 + 1000000000 * 2 ^ 1074) (2 ^ 1115) tt)

@@ -5,66 +5,41 @@ use mathlib.Core.Path.{_≡_, refl, sym, ap, _∙_, subst}
 use mathlib.Core.Logic.{_⊎_, inl, inr}
 use mathlib.Core.Bool.{Bool, true, false}
 use mathlib.Core.List.{List}
-use native.Mathlib.Nat.{le-trans, le-of-eq}
+use native.Mathlib.Nat.{le-trans, le-of-eq, div-add-mod}
 use native.Mathlib.Omega.{arith}
-use borrow.Author.Tests.{lt-ltb}
 use lib.ListN.{getD}
 use lib.Ieee.{Float, nan}
+use Rattle.base.proofs.Choices.{by-cases}
 use Rattle.plane.specs.declared.PlanarPoint.{PlanarPoint}
 use Rattle.plane.specs.Plane.{same}
 use Rattle.ring.specs.Ring.{vertex-at, following, edge-end, source, stored-at}
 use Rattle.ring.proofs.Vertices.{following-on, following-round, following-lt}
-use Rattle.front.proofs.Demand.Occ.{by-cases}
+use Rattle.ring.proofs.Sources.{source-on, source-first, source-later, source-lt, source-twice}
 use Rattle.margins.specs.Far.{magnitude, Far}
 use Rattle.margin.specs.Margin.{Doubles, RingFar, Largest}
-use Rattle.margin.proofs.Edges.{SamePoint, equal-points, far-turned, far-start, far-same}
+use Rattle.margin.proofs.Edges.{SamePoint, equal-points, far-reversed, far-start, far-same}
 
 -- m of n vertices are left: all of them, or all but a last one that repeats the first
 abbrev pub Left : List Float → ℕ → ℕ → Type 0
 Left ps n m = (m ≡ n) ⊎ ((n ≡ m + 1) × (same (vertex-at ps m) (vertex-at ps 0) ≡ true))
 
--- the m vertices of qs are the n of ps, without a closing repeat, turned round if `back`
+-- the m vertices of qs are the n of ps, without a closing repeat, reversed if `back`
 pub record Stands (qs : List Float) (m : ℕ) (ps : List Float) (n : ℕ) : Type 0 where
   pub back : Bool
   pub some : 3 ≤ m
   pub left : Left ps n m
   pub each : (k : ℕ) → k < m → vertex-at qs k ≡ stored-at ps m back k
 
--- ---- the numbers of vertices that are turned round
+-- ---- the numbers of vertices that are reversed
 
-source-on : (m k : ℕ) → source m false k ≡ k
-unfolding source
-source-on m k = refl
-
-source-first : (m : ℕ) → source m true 0 ≡ 0
-unfolding source
-source-first m = refl
-
-source-later : (m k : ℕ) → 0 < k → source m true k ≡ m - k
-unfolding source
-source-later m k l = rw (lt-ltb 0 k l) refl
-
-source-lt : (m : ℕ) (back : Bool) (k : ℕ) → k < m → source m back k < m
-source-lt m false k l = subst (λ (i : ℕ). i < m) (sym (source-on m k)) l
-source-lt m true k l = by-cases k 0
-    (λ e. subst (λ (i : ℕ). source m true i < m) (sym e) (subst (λ (i : ℕ). i < m) (sym (source-first m)) (omega arith)))
-    (λ e. subst (λ (i : ℕ). i < m) (sym (source-later m k (omega arith))) (omega arith))
-
--- twice is not at all
-source-twice : (m : ℕ) (back : Bool) (k : ℕ) → k < m → source m back (source m back k) ≡ k
-source-twice m false k l = source-on m (source m false k) ∙ source-on m k
-source-twice m true k l = by-cases k 0
-    (λ e. rw e (ap (source m true) (source-first m) ∙ source-first m))
-    (λ e. ap (source m true) (source-later m k (omega arith)) ∙ source-later m (m - k) (omega arith) ∙ omega arith)
-
--- edge i that was drawn is edge m - 1 - i of the ring turned round
-turned-start : (m i : ℕ) → i < m → source m true (m - 1 - i) ≡ following m i
-turned-start m i l = by-cases (i + 1) m
+-- edge i that was drawn is edge m - 1 - i of the ring reversed
+reversed-start : (m i : ℕ) → i < m → source m true (m - 1 - i) ≡ following m i
+reversed-start m i l = by-cases (i + 1) m
     (λ e. ap (source m true) {x = m - 1 - i} {y = 0} (omega arith) ∙ source-first m ∙ following-round m i (omega arith))
     (λ e. source-later m (m - 1 - i) (omega arith) ∙ omega arith ∙ following-on m i (omega arith))
 
-turned-end : (m i : ℕ) → i < m → source m true (following m (m - 1 - i)) ≡ i
-turned-end m i l = by-cases i 0
+reversed-end : (m i : ℕ) → i < m → source m true (following m (m - 1 - i)) ≡ i
+reversed-end m i l = by-cases i 0
     (λ e. rw e (ap (source m true) (sym (following-round m (m - 1 - 0) (omega arith))) ∙ source-first m))
     (λ e. ap (source m true) (sym (following-on m (m - 1 - i) (omega arith))) ∙ source-later m (m - 1 - i + 1) (omega arith) ∙ omega arith)
 
@@ -86,7 +61,7 @@ at-repeat : (D M : ℕ) (p : PlanarPoint) (ps : List Float) (m i : ℕ) → i < 
 unfolding edge-end
 at-repeat D M p ps m i l e z h = by-cases i m
     (λ f. rw f (ends (following (m + 1) m) 0 (sym (following-round (m + 1) m (omega arith))) (vertex-at ps m)
-    (far-turned D M p (vertex-at ps 0) (vertex-at ps m) (far-same D M p (vertex-at ps 0) (vertex-at ps 0) (vertex-at ps m) e (far-start D M p (vertex-at ps 0) (edge-end ps m 0) (h 0 z))))))
+    (far-reversed D M p (vertex-at ps 0) (vertex-at ps m) (far-same D M p (vertex-at ps 0) (vertex-at ps 0) (vertex-at ps m) e (far-start D M p (vertex-at ps 0) (edge-end ps m 0) (h 0 z))))))
     (λ f. ends (following (m + 1) i) (i + 1) (sym (following-on (m + 1) i (omega arith))) (vertex-at ps i) (by-cases (i + 1) m
     (λ g. rw g (far-same D M p (vertex-at ps i) (vertex-at ps 0) (vertex-at ps m) e (starts (following m i) 0 (sym (following-round m i (omega arith))) (vertex-at ps i) (h i (omega arith)))))
     (λ g. starts (following m i) (i + 1) (sym (following-on m i (omega arith))) (vertex-at ps i) (h i (omega arith)))))
@@ -98,9 +73,6 @@ at-repeat D M p ps m i l e z h = by-cases i m
     ends x y e a = subst (λ (k : ℕ). Far D M p a (vertex-at ps k)) (sym e)
 
 -- ---- number 2 v + c is the east or the north of vertex v
-
-halves : (k : ℕ) → 2 * (k / 2) + k % 2 ≡ k
-halves k = omega arith
 
 number : PlanarPoint → ℕ → Float
 number p zero = p .east
@@ -148,9 +120,9 @@ module _ (qs : List Float) (m : ℕ) (ps : List Float) (n : ℕ) (s : Stands qs 
     left-edge true e i l =
         let j : ℕ = m - 1 - i in
         let z : j < m = omega arith in
-        far-turned D M p (vertex-at ps (following m i)) (vertex-at ps i)
+        far-reversed D M p (vertex-at ps (following m i)) (vertex-at ps i)
         (between (vertex-at qs j) (vertex-at qs (following m j)) (vertex-at ps (following m i)) (vertex-at ps i)
-        (round j z ∙ ap (vertex-at ps) (turned-start m i l)) (round (following m j) (following-lt m j z) ∙ ap (vertex-at ps) (turned-end m i l)) (h j z))
+        (round j z ∙ ap (vertex-at ps) (reversed-start m i l)) (round (following m j) (following-lt m j z) ∙ ap (vertex-at ps) (reversed-end m i l)) (h j z))
       where
         round : (k : ℕ) → k < m → vertex-at qs k ≡ vertex-at ps (source m true k)
         round k z = stored-vertex k z ∙ ap (λ (b : Bool). vertex-at ps (source m b k)) e
@@ -191,7 +163,7 @@ module _ (qs : List Float) (m : ℕ) (ps : List Float) (n : ℕ) (s : Stands qs 
         (λ f. left-number v c (omega (arith, e .0)) z)
 
     pub drawn-each : (k : ℕ) → k < 2 * n → magnitude (getD ps k nan) ≤ M
-    drawn-each k l = subst (λ (i : ℕ). magnitude (getD ps i nan) ≤ M) (halves k) (all-numbers (s .left) (k / 2) (k % 2) (omega arith) (omega arith))
+    drawn-each k l = subst (λ (i : ℕ). magnitude (getD ps i nan) ≤ M) (div-add-mod k 2) (all-numbers (s .left) (k / 2) (k % 2) (omega arith) (omega arith))
 
   -- a stored number was drawn
   pub record Place (k : ℕ) : Type 0 where
@@ -207,7 +179,7 @@ module _ (qs : List Float) (m : ℕ) (ps : List Float) (n : ℕ) (s : Stands qs 
       record {
         at = 2 * source m (s .back) v + k % 2;
         within = inside (source m (s .back) v) (k % 2) (source-lt m (s .back) v z) c (s .left);
-        is = sym (moved qs ps v (source m (s .back) v) (k % 2) c (stored-vertex v z)) ∙ ap (λ (i : ℕ). getD qs i nan) (halves k);
+        is = sym (moved qs ps v (source m (s .back) v) (k % 2) c (stored-vertex v z)) ∙ ap (λ (i : ℕ). getD qs i nan) (div-add-mod k 2);
       }
     where
       inside : (v c : ℕ) → v < m → c < 2 → Left ps n m → 2 * v + c < 2 * n

@@ -1,4 +1,4 @@
--- R-10 of what was drawn. Numbers that are accepted are stored without a closing repeat, and turned round where they run the wrong way. The
+-- R-10 of what was drawn. Numbers that are accepted are stored without a closing repeat, and reversed where they run the wrong way. The
 -- margin is stated here of the numbers as they were handed in: from every edge that was drawn, those at a closing repeat too, and with the
 -- largest absolute coordinate among them. Outlines handed in as a region are at the end.
 -- Proved in `proofs/Drawn.antt`, `proofs/DrawnRings.antt` and `proofs/Given.antt`. Assumes nothing.
@@ -12,8 +12,8 @@ use lib.Ieee.{Float, nan, binary64, fits, lt}
 use Rattle.math.specs.Number.{zero-float}
 use Rattle.error.specs.Refusals.{granted}
 use Rattle.margins.specs.Far.{over, magnitude}
-use Rattle.polygon.specs.declared.Outline.{Outline}
-use Rattle.polygon.specs.Outlines.{new-outline, outline}
+use Rattle.outline.specs.declared.Outline.{Outline}
+use Rattle.outline.specs.Outlines.{new-outline, outline}
 use Rattle.offset.specs.Offsets.{offset}
 use Rattle.region.specs.declared.Region.{Region}
 use Rattle.region.specs.Regions.{ring-points, ring-count}

@@ -9,7 +9,7 @@ use lib.Ieee.{Float, binary64, fits, lt}
 use Rattle.math.specs.Number.{zero-float}
 use Rattle.error.specs.Refusals.{granted}
 use Rattle.region.specs.Regions.{ring-points, ring-count}
-use Rattle.jobs.specs.Jobs.{job}
+use Rattle.job.specs.Jobs.{job}
 use Rattle.margin.specs.Margin.{Doubles}
 use Rattle.margin.specs.Drawn.{DrawnRings}
 

@@ -9,9 +9,9 @@ use lib.ListN.{getD, drop}
 use lib.Ieee.{Float, binary64, fits, lt}
 use Rattle.math.specs.Number.{zero-float}
 use Rattle.error.specs.Refusals.{granted}
-use Rattle.loops.specs.Loop.{rounds}
+use Rattle.base.specs.Loop.{rounds}
 use Rattle.margins.specs.Far.{over}
-use Rattle.polygon.specs.declared.Outline.{Outline}
+use Rattle.outline.specs.declared.Outline.{Outline}
 use Rattle.offset.specs.Lent.{offset-write, written-offset}
 use Rattle.region.specs.declared.Region.{Region}
 use Rattle.region.specs.Regions.{ring-points, ring-count, region-extent}

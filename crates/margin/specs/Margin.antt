@@ -17,9 +17,9 @@ use Rattle.math.specs.Number.{zero-float}
 use Rattle.error.specs.Refusals.{granted}
 use Rattle.margins.specs.Far.{over, magnitude, Far}
 use Rattle.ring.specs.Ring.{vertex-at, edge-end}
-use Rattle.measures.specs.Measures.{extent}
-use Rattle.polygon.specs.declared.Outline.{Outline}
-use Rattle.polygon.specs.Outlines.{proper}
+use Rattle.ring_measure.specs.Measures.{extent}
+use Rattle.outline.specs.declared.Outline.{Outline}
+use Rattle.outline.specs.Outlines.{proper}
 use Rattle.offset.specs.Offsets.{offset}
 use Rattle.region.specs.declared.Region.{Region}
 use Rattle.region.specs.Regions.{ring-points, ring-count, region-extent}

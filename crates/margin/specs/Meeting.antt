@@ -9,10 +9,10 @@ use mathlib.Core.List.{List}
 use lib.Ieee.{Float, lt}
 use Rattle.math.specs.Number.{zero-float}
 use Rattle.error.specs.Refusals.{granted}
-use Rattle.simple.specs.Exact.{Strangers, EdgesShare, Folded}
-use Rattle.meet.specs.Exact.{RingsShare}
-use Rattle.polygon.specs.declared.Outline.{Outline}
-use Rattle.polygon.specs.Outlines.{outline}
+use Rattle.ring_cross.specs.SimpleExact.{Strangers, EdgesShare, Folded}
+use Rattle.ring_cross.specs.MeetExact.{RingsShare}
+use Rattle.outline.specs.declared.Outline.{Outline}
+use Rattle.outline.specs.Outlines.{outline}
 use Rattle.offset.specs.Offsets.{offset}
 use Rattle.region.specs.declared.Region.{Region}
 use Rattle.region.specs.Regions.{ring-points, ring-count}

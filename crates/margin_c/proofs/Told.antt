@@ -10,11 +10,11 @@ use lib.ListN.{getD, length}
 use lib.Ieee.{Float, binary64, fits, lt}
 use Rattle.error.specs.declared.Refusal.{Refusal}
 use Rattle.error.specs.Refusals.{number, values, granted}
-use Rattle.values.specs.Carries.{told, carried-of, carried}
+use Rattle.error.specs.Carries.{told, carried-of, carried}
 use Rattle.math.specs.Number.{zero-float}
 use Rattle.margins.specs.Far.{over}
-use Rattle.polygon.specs.declared.Outline.{Outline}
-use Rattle.polygon.specs.Outlines.{proper, stored-outline}
+use Rattle.outline.specs.declared.Outline.{Outline}
+use Rattle.outline.specs.Outlines.{proper, stored-outline}
 use Rattle.front.proofs.Demand.Shapes.{proper-is}
 use Rattle.offset.specs.Offsets.{offset}
 use Rattle.offset.specs.Lent.{offset-told, offset-write, written-offset}
@@ -22,8 +22,9 @@ use Rattle.region.specs.declared.NewRegion.{NewRegion}
 use Rattle.region.specs.declared.InsetWritten.{InsetWritten}
 use Rattle.region.specs.Checks.{region}
 use Rattle.region.specs.Queries.{inset-write, written-inset}
-use Rattle.region_c.specs.Told.{inset-answer, told-inset, inset-refused, inset-made, inset-over}
-use Rattle.lizardwire_c.specs.Exports.{vertices, given, offset-answer, told-offset}
+use Rattle.told.specs.Told.{vertices, offset-answer, inset-answer}
+use Rattle.region_c.specs.Told.{told-inset, inset-refused, inset-made, inset-over}
+use Rattle.lizardwire_c.specs.Exports.{given, told-offset}
 use Rattle.margin.specs.Margin.{Doubles, largest-of}
 use Rattle.margin.specs.Lent.{ring-in}
 use Rattle.margin.specs.Drawn.{DrawnMargin, DrawnRings}

@@ -10,37 +10,22 @@ use lib.Dec.{T}
 use lib.ListN.{getD, length}
 use lib.Ieee.{Float, binary64, fits, lt}
 use Rattle.math.specs.Number.{zero-float}
-use Rattle.offset.specs.Lent.{offset-write, written-offset}
-use Rattle.region.specs.Checks.{region}
 use Rattle.margin.specs.Margin.{Doubles}
 use Rattle.margin.specs.Lent.{ring-in}
 use Rattle.margin.specs.Drawn.{DrawnMargin, DrawnRings}
-use Rattle.region_c.specs.declared.LwRegionOffset.{LwRegionOffset}
-use Rattle.region_c.specs.Told.{told-inset, inset-made, inset-over}
-use Rattle.lizardwire_c.specs.declared.LwOffset.{LwOffset}
-use Rattle.lizardwire_c.specs.Exports.{vertices, given, told-offset}
+use Rattle.told.specs.Told.{vertices}
+use Rattle.region_c.specs.Told.{lw-region-inset, lw-region-inset-out}
+use Rattle.lizardwire_c.specs.Exports.{lw-offset, lw-offset-out}
 
--- ---- `lw_inset` of the numbers ps: what it answers, and `out` afterwards, as its contract says (`answered`, `written`)
-
-abbrev pub lw-inset : List Float → Float → List Float → LwOffset
-lw-inset ps d out = told-offset (offset-write (given ps) false d out)
-
-abbrev pub lw-inset-out : List Float → Float → List Float → List Float
-lw-inset-out ps d out = written-offset (given ps) false d out
+-- ---- `lw_inset` of the numbers ps
 
 abbrev pub LwInsetMargin : Type 0
 LwInsetMargin =
     (ps : List Float) (d : Float) (out : List Float) → Doubles ps → T (fits binary64 d) →
-    (lw-inset ps d out) .refusal ≡ 0 → lt zero-float d ≡ true →
-    DrawnMargin d ps (vertices (length ps)) (lw-inset-out ps d out) ((lw-inset ps d out) .count)
+    (lw-offset false ps d out) .refusal ≡ 0 → lt zero-float d ≡ true →
+    DrawnMargin d ps (vertices (length ps)) (lw-offset-out false ps d out) ((lw-offset false ps d out) .count)
 
--- ---- `lw_region_inset` of the numbers ps in rings of these lengths, as its contract says (`answered`, `written`)
-
-abbrev pub lw-region-inset : List ℕ → List Float → Float → List Float → LwRegionOffset
-lw-region-inset lengths ps d out = told-inset (inset-made (region lengths ps) d out)
-
-abbrev pub lw-region-inset-out : List ℕ → List Float → Float → List Float → List Float
-lw-region-inset-out lengths ps d out = inset-over (region lengths ps) d out
+-- ---- `lw_region_inset` of the numbers ps in rings of these lengths
 
 abbrev pub LwRegionInsetMargin : Type 0
 LwRegionInsetMargin =

@@ -33,7 +33,7 @@ axis-square w x i j =
     ap (λ (z : ℕ). square (past w x i j) + 2 * z) (mixed i j (w .plus) (x .plus) (w .minus) (x .minus))
     ∙ last (j * w .plus) (i * x .minus) (j * w .minus) (i * x .plus) (square (past w x i j)) (j * j * square w) (i * i * square x)
     (sq-is (j * w .plus + i * x .minus) (j * w .minus + i * x .plus)) (scaled j (w .plus) (w .minus) (square w) (sq-is (w .plus) (w .minus)))
-    (turn (i * x .plus) (i * x .minus) (i * i * square x) (scaled i (x .plus) (x .minus) (square x) (sq-is (x .plus) (x .minus))))
+    (regroup (i * x .plus) (i * x .minus) (i * i * square x) (scaled i (x .plus) (x .minus) (square x) (sq-is (x .plus) (x .minus))))
     ∙ ap (λ (z : ℕ). j * j * square w + i * i * square x + 2 * z) (sym (mixed i j (w .plus) (x .minus) (w .minus) (x .plus)))
   where
     mixed : (i j p q r s : ℕ) → i * j * (p * q + r * s) ≡ j * p * (i * q) + j * r * (i * s)
@@ -42,8 +42,8 @@ axis-square w x i j =
     scaled : (k p m b : ℕ) → b + 2 * (p * m) ≡ p * p + m * m → k * k * b + 2 * (k * p * (k * m)) ≡ k * p * (k * p) + k * m * (k * m)
     scaled k p m b h = simp ring (simp ring at (ap (λ (z : ℕ). k * k * z) h))
 
-    turn : (v q c : ℕ) → c + 2 * (v * q) ≡ v * v + q * q → c + 2 * (q * v) ≡ q * q + v * v
-    turn v q c h = omega arith
+    regroup : (v q c : ℕ) → c + 2 * (v * q) ≡ v * v + q * q → c + 2 * (q * v) ≡ q * q + v * v
+    regroup v q c h = omega arith
 
     last : (p q r s a b c : ℕ) → a + 2 * ((p + q) * (r + s)) ≡ (p + q) * (p + q) + (r + s) * (r + s) → b + 2 * (p * r) ≡ p * p + r * r
         → c + 2 * (q * s) ≡ q * q + s * s → a + 2 * (p * s + r * q) ≡ b + c + 2 * (p * q + r * s)

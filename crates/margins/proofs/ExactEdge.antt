@@ -204,11 +204,11 @@ reach-axis w x i j D c n G jp ij nd cp g s = record {
   below = le-of-mul-le-mul-left {k = j} (under (w .minus) (w .plus) (x .minus) (x .plus) (over (past w x i j) .1) (edge x .1)) jp;
 }
   where
-    turn : (c D j : ℕ) → c * D * j ≡ c * (j * D)
-    turn c D j = simp ring
+    regroup : (c D j : ℕ) → c * D * j ≡ c * (j * D)
+    regroup c D j = simp ring
 
     bound : n * j ≤ c * (j * D)
-    bound = le-trans (mul-le-mul-right j nd) (le-of-eq (turn c D j))
+    bound = le-trans (mul-le-mul-right j nd) (le-of-eq (regroup c D j))
 
     near : size (past w x i j) ≤ j * D
     near =

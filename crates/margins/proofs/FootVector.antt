@@ -145,12 +145,12 @@ module _ {a p : Float} {A P : Signed} {R : ℕ} (range : Range R) (ia : Is a A) 
     units = start-vector .units;
     e = start-vector .e;
     is = start-vector .is;
-    close = turned unit (start-vector .units) (start-vector .e) (close-scale unit (start-vector .close));
+    close = swapped unit (start-vector .units) (start-vector .e) (close-scale unit (start-vector .close));
     bound = omega (arith, start-vector .bound);
   }
     where
-      turned : (u : ℕ) (w : Signed) (e : ℕ) → Close (u · w) (u · (A ⊟ P)) (u * e) → Close (u · w) (negated (past (P ⊟ A) X 0 u)) (u * e)
-      turned u w e h = record { above = omega (arith, h .above); below = omega (arith, h .below) }
+      swapped : (u : ℕ) (w : Signed) (e : ℕ) → Close (u · w) (u · (A ⊟ P)) (u * e) → Close (u · w) (negated (past (P ⊟ A) X 0 u)) (u * e)
+      swapped u w e h = record { above = omega (arith, h .above); below = omega (arith, h .below) }
 
 -- the computed part of the vector is as long as the exact one but for e
 pub part-length : {z : Float} {A : Signed} {u c R : ℕ} (a : Along z (negated A) u c R) → u * total (a .units) ≤ size A + u * a .e

@@ -1,6 +1,6 @@
--- A double without its sign, and the test of a finite one. Assumes nothing.
+-- A double without its sign and with the other one, and the test of a finite one. Assumes nothing.
 use mathlib.Core.Path.{_≡_, refl, sym, ap, _∙_}
-use mathlib.Core.Bool.{Bool, true, false, not, _&&_}
+use mathlib.Core.Bool.{Bool, true, false, not, _&&_, Bool·not-not}
 use Prim.Native.Nat.{ℕ, _%_, _^_, _<_}
 use native.Mathlib.Omega.{arith}
 use lib.Dec.{T}
@@ -22,6 +22,13 @@ finite-test (fin s m e) = refl
 pub abs-nan : (x : Float) → x ≡ nan → x ≡ abs x
 unfolding abs
 abs-nan x e = rw e refl
+
+-- the sign swapped twice
+pub neg-neg : (x : Float) → neg (neg x) ≡ x
+unfolding neg
+neg-neg nan = refl
+neg-neg (inf s) = ap inf (Bool·not-not s)
+neg-neg (fin s m e) = ap (λ (b : Bool). fin b m e) (Bool·not-not s)
 
 -- ---- the pattern of a finite double: the sign, and then that of its absolute value
 

@@ -9,6 +9,7 @@ use Rattle.hypotenuse.specs.Hypot.{round-root}
 use Rattle.math.specs.Parts.{Twice, Fourth, Parts, exponent-of, significand-of, units-of}
 use Rattle.hypotenuse.proofs.Poly.{poly}
 use Rattle.hypotenuse.proofs.Order.{sq-lt}
+use Rattle.hypotenuse.proofs.Nearest.{square-power}
 use Rattle.math.proofs.Rounding.{near-one, round-root-is}
 use Rattle.math.proofs.Pattern.{finite-is}
 
@@ -42,19 +43,13 @@ in-units m n d x y root rest e w =
     twice : (x d y : ℕ) → x ≡ d + y → 2 * x ≡ 2 * d + 2 * y
     twice x d y e = omega arith
 
-    two : (d : ℕ) → 2 * d ≡ d + d
-    two d = omega arith
-
-    square : (d : ℕ) → 2 ^ (2 * d) ≡ 2 ^ d * 2 ^ d
-    square d = ap (λ (z : ℕ). 2 ^ z) (two d) ∙ pow-add 2 d d
-
     product : (m n D Y : ℕ) → (m * m * (D * D) + n * n) * (Y * Y) ≡ m * (D * Y) * (m * (D * Y)) + n * Y * (n * Y)
     product m n D Y = simp poly (omega arith)
 
     same : (m * m * 2 ^ (2 * d) + n * n) * 2 ^ (2 * y) ≡ m * 2 ^ x * (m * 2 ^ x) + n * 2 ^ y * (n * 2 ^ y)
     same =
-        ap (λ (z : ℕ). (m * m * z + n * n) * 2 ^ (2 * y)) (square d)
-        ∙ ap (λ (z : ℕ). (m * m * (2 ^ d * 2 ^ d) + n * n) * z) (square y)
+        ap (λ (z : ℕ). (m * m * z + n * n) * 2 ^ (2 * y)) (square-power d)
+        ∙ ap (λ (z : ℕ). (m * m * (2 ^ d * 2 ^ d) + n * n) * z) (square-power y)
         ∙ product m n (2 ^ d) (2 ^ y)
         ∙ ap (λ (z : ℕ). m * z * (m * z) + n * 2 ^ y * (n * 2 ^ y)) (sym (ap (λ (z : ℕ). 2 ^ z) e ∙ pow-add 2 d y))
 
@@ -118,7 +113,13 @@ far a b h g =
     let m-lt : m < 2 ^ 53 = omega arith in
     let n-lt : n < 2 ^ 53 = omega arith in
     let w = in-units m n (x - y) x y (m * 2) n (omega arith) (gap m n (2 * (x - y)) m-ge n-lt (omega arith)) in
-    let f : Fourth (m * 2 * 2) n m = record { down = λ _. exact m; tie = λ (z : m * 2 * 2 % 4 ≡ 2). absurd (not-two m z); past = λ (z : m * 2 * 2 % 4 ≡ 2). absurd (not-two m z); up = λ (z : 2 < m * 2 * 2 % 4). absurd (not-three m z) } in
+    let f : Fourth (m * 2 * 2) n m = record {
+      down = λ _. exact m;
+      tie = λ (z : m * 2 * 2 % 4 ≡ 2). absurd (not-two m z);
+      past = λ
+          (z : m * 2 * 2 % 4 ≡ 2). absurd (not-two m z);
+      up = λ (z : 2 < m * 2 * 2 % 4). absurd (not-three m z);
+    } in
     let p : Parts m x = record { q-le = omega arith; full = λ _. m-ge } in
     ap (ofBits binary64) (whole x m)
     ∙ finite-is m x p (subst (λ (z : ℕ). z < 2047 * 2 ^ 52) (whole x m) h)

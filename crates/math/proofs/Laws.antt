@@ -18,18 +18,15 @@ use Rattle.math.specs.Number.{abs}
 use Rattle.hypotenuse.specs.Hypot.{hypot, count}
 use Rattle.hypotenuse.specs.Nearest.{Held, NearestRoot, Rounds, past, near}
 use Rattle.hypotenuse.proofs.Poly.{poly}
-use Rattle.hypotenuse.proofs.Order.{sq-mono}
-use Rattle.math.proofs.Values as values
+use Rattle.hypotenuse.proofs.Order.{sq-mono, le-of-not-lt}
+use Rattle.math.proofs.Values.{hypot-swap}
 use Rattle.hypotenuse.proofs.Units.{count-exact, double-held}
 use Rattle.hypotenuse.proofs.Overflow.{round-root-rounds}
 
 -- ---- what a rounded root is: a double whose square is at most s is at most the rounded root of s
-root-reaches : {s q k : ℕ} (Z : ℕ) → Held Z → Z * Z ≤ s → NearestRoot s q k → Z ≤ q * 2 ^ k
-root-reaches {s} {q} {k} Z h l n = not-less (λ (g : q * 2 ^ k < Z). not-le-of-lt (sq-mono (plus Z g)) (le-trans (four Z l) (n .above Z h g)))
+pub root-reaches : {s q k : ℕ} (Z : ℕ) → Held Z → Z * Z ≤ s → NearestRoot s q k → Z ≤ q * 2 ^ k
+root-reaches {s} {q} {k} Z h l n = le-of-not-lt (λ (g : q * 2 ^ k < Z). not-le-of-lt (sq-mono (plus Z g)) (le-trans (four Z l) (n .above Z h g)))
   where
-    not-less : {a b : ℕ} → (b < a → ⊥) → a ≤ b
-    not-less n = omega arith
-
     plus : (c : ℕ) {a b : ℕ} → a < b → a + c < b + c
     plus c h = omega arith
 
@@ -58,9 +55,6 @@ rounds-number r (near q k _ v n) = valued r (q * 2 ^ k) v
     valued (fin s m e) a v = (refl, ap (λ (t : Bool). fin t m e) (sym (v .0)))
 
 -- ---- the operands' order, signs and NaNs
-pub hypot-swap : (x y : Float) → hypot x y ≡ hypot y x
-hypot-swap = values.hypot-swap
-
 pub hypot-abs : (x y : Float) → hypot (abs x) y ≡ hypot x y
 unfolding hypot abs
 hypot-abs nan y = refl
@@ -109,13 +103,13 @@ pub hypot-right : (x y : Float) → T (fits binary64 y) → isNan x ≡ false �
 hypot-right x y f p q = ap (le (abs y)) (hypot-swap x y) ∙ hypot-left y x f q p
 
 -- ---- so where a magnitude is not below b, the hypot is not below b
-lt-infinity : (b : Float) → lt (inf false) b ≡ false
+pub lt-infinity : (b : Float) → lt (inf false) b ≡ false
 unfolding lt
 lt-infinity nan = refl
 lt-infinity (inf t) = refl
 lt-infinity (fin t n d) = refl
 
-or-le : (a b : ℕ) → (ltb a b || (eqb a b && true)) ≡ true → a ≤ b
+pub or-le : (a b : ℕ) → (ltb a b || (eqb a b && true)) ≡ true → a ≤ b
 or-le a b h = go (ltb a b) (eqb a b) refl refl h
   where
     go : (p q : Bool) → ltb a b ≡ p → eqb a b ≡ q → (p || (q && true)) ≡ true → a ≤ b

@@ -1,5 +1,5 @@
 -- What one float operation may be off by, in units of the smallest double: half a place of the result, or half a unit. A finite double is a
--- signed number of units of which one part is 0. (near/proofs/Rounded.antt has rounding laws of its own, for squares and their sums, infinite
+-- signed number of units of which one part is 0. (ring_near/proofs/Rounded.antt has rounding laws of its own, for squares and their sums, infinite
 -- ones too, and to a part in 2 ^ 36: too coarse here.) Assumes nothing.
 use mathlib.Core.Path.{_≡_, refl, sym, ap, _∙_, subst}
 use mathlib.Core.Logic.{_⊎_, inl, inr}
@@ -155,13 +155,13 @@ result {z} {t} {x} {d} a k r e l = record {
     down : (v x a b : ℕ) → a + 0 ≡ b + x → x ≤ k → 2 ^ 53 * x ≤ 2 ^ 53 * v + x + 2 ^ 52 * d → d * 0 + a ≤ v + b + (k + 2 ^ 52 * d) / 2 ^ 53
     down v x a b e l h = omega arith
 
-    turned : (P : ℕ → Type 0) → P (r .size * d) → P (d * r .size)
-    turned P h = subst P (mul-comm (r .size) d) h
+    swapped : (P : ℕ → Type 0) → P (r .size * d) → P (d * r .size)
+    swapped P h = subst P (mul-comm (r .size) d) h
 
     close : (a b : ℕ) → a + 0 ≡ b + x → Close (d · (r .size ⊖ 0)) (a ⊖ b) ((k + 2 ^ 52 * d) / 2 ^ 53)
     close a b e = record {
-      above = up (d * r .size) x a b e l (turned (λ (y : ℕ). 2 ^ 53 * y ≤ 2 ^ 53 * x + x + 2 ^ 52 * d) (r .near .above));
-      below = down (d * r .size) x a b e l (turned (λ (y : ℕ). 2 ^ 53 * x ≤ 2 ^ 53 * y + x + 2 ^ 52 * d) (r .near .below));
+      above = up (d * r .size) x a b e l (swapped (λ (y : ℕ). 2 ^ 53 * y ≤ 2 ^ 53 * x + x + 2 ^ 52 * d) (r .near .above));
+      below = down (d * r .size) x a b e l (swapped (λ (y : ℕ). 2 ^ 53 * x ≤ 2 ^ 53 * y + x + 2 ^ 52 * d) (r .near .below));
     }
 
     go : (t : Bool) (a : Signed) → Same a (signed t x) → Close (d · signed t (r .size)) a ((k + 2 ^ 52 * d) / 2 ^ 53)
@@ -180,8 +180,8 @@ record Fractions (a b c P Q : ℕ) : Type 0 where
   second : b * unit ≡ Q * c
   small : P + Q < limit
 
-turned : {a b c P Q : ℕ} → Fractions a b c P Q → Fractions b a c Q P
-turned {a} {b} {c} {P} {Q} f = record {
+swapped : {a b c P Q : ℕ} → Fractions a b c P Q → Fractions b a c Q P
+swapped {a} {b} {c} {P} {Q} f = record {
   some = f .some;
   first = f .second;
   second = f .first;
@@ -221,7 +221,7 @@ module _ {a b c P Q : ℕ} (k : ℕ) (f : Fractions a b c P Q) (h : Small (P ⊖
   both = signed s P ⊕ signed (not s) Q
 
   second-larger : a < b → Result (round binary64 (not s) (b - a) c) both 1 k
-  second-larger l = result both k (difference-of (not s) (turned f)) (same s (units-le (turned f) (le-of-lt l))) (omega (arith, h .below))
+  second-larger l = result both k (difference-of (not s) (swapped f)) (same s (units-le (swapped f) (le-of-lt l))) (omega (arith, h .below))
     where
       same : (s : Bool) → P ≤ Q → Same (signed s P ⊕ signed (not s) Q) (signed (not s) (Q - P))
       same false o = omega arith
@@ -233,7 +233,7 @@ module _ {a b c P Q : ℕ} (k : ℕ) (f : Fractions a b c P Q) (h : Small (P ⊖
       same : (s o : Bool) → (T (not o) → a ≤ b) → Q ≤ P → Same (signed s P ⊕ signed (not s) Q) (signed (s && o) (P - Q))
       same false o g m = omega arith
       same true true g m = omega arith
-      same true false g m = let e = units-le (turned f) (g tt) in omega arith
+      same true false g m = let e = units-le (swapped f) (g tt) in omega arith
 
   opposite : Result (cond (ltb a b) (round binary64 (not s) (b - a) c) (round binary64 (s && ltb b a) (a - b) c)) both 1 k
   opposite = go (ltb a b) (ltb→lt a b) (nltb→le a b)
@@ -286,11 +286,11 @@ add-near {x} {y} {s} {t} {k} i j =
 -- the negative
 pub neg-is : {x : Float} {s : Signed} → Is x s → Is (neg x) (negated s)
 unfolding neg
-neg-is {x} {s} i = by-sign (λ (s : Signed). Is (neg x) (negated s)) i (λ b n v. record { sign = not b; size = n; value = value x b n v; same = turn b n })
+neg-is {x} {s} i = by-sign (λ (s : Signed). Is (neg x) (negated s)) i (λ b n v. record { sign = not b; size = n; value = value x b n v; same = swap b n })
   where
-    turn : (b : Bool) (n : ℕ) → negated (signed b n) ≡ signed (not b) n
-    turn false n = refl
-    turn true n = refl
+    swap : (b : Bool) (n : ℕ) → negated (signed b n) ≡ signed (not b) n
+    swap false n = refl
+    swap true n = refl
 
     value : (x : Float) (b : Bool) (n : ℕ) → HasValue x b n (2 ^ 1074) → HasValue (neg x) (not b) n (2 ^ 1074)
     value nan b n v = absurd v

@@ -1,28 +1,23 @@
 -- The order of doubles: what lies past a number lies past what is below it, a NaN or not. Assumes nothing.
 use Prim.Native.Nat.{ℕ, _+_, _*_, _≤_, _<_}
-use native.Mathlib.Nat.{not-le-of-lt, mul-pos, zero-mul}
+use native.Mathlib.Nat.{not-le-of-lt, mul-pos, zero-mul, lt-of-not-le}
 use native.Mathlib.Omega.{arith}
-use mathlib.Core.Path.{_≡_, refl, sym, _∙_}
+use mathlib.Core.Path.{_≡_, refl, sym, ap, _∙_}
 use mathlib.Core.Bool.{Bool, true, false, _&&_, _||_, true≢false, false≢true}
+use mathlib.Mathlib.Data.Bool.Basic.{or-inl, or-eq-false-eq-eq-false-and-eq-false}
 use borrow.Author.Tests.{ltb-true, ltb-false, eqb-true, le-ltb, ne-eqb, eq-eqb}
 use lib.Dec.{ltb, eqb}
-use lib.Ieee.{Float, nan, inf, fin, up, down, below, level, lt, le, eq}
+use lib.Ieee.{Float, nan, inf, fin, up, down, below, level, lt, le, eq, isNan}
 use lib.Ieee.Fits.{down-pos}
 use lib.Ieee.Positive.{through, first-pos}
 
 -- ---- fractions
 
 strictly : (x y z p q r : ℕ) → 0 < r → x * q < y * p → y * r ≤ z * q → x * r < z * p
-strictly x y z p q r R h k = not-less (λ (l : z * p ≤ x * r). not-le-of-lt h (through y z x q r p R k l))
-  where
-    not-less : {a b : ℕ} → (b ≤ a → ⊥) → a < b
-    not-less n = omega arith
+strictly x y z p q r R h k = lt-of-not-le (λ (l : z * p ≤ x * r). not-le-of-lt h (through y z x q r p R k l))
 
 strictly-then : (x y z p q r : ℕ) → 0 < p → x * q ≤ y * p → y * r < z * q → x * r < z * p
-strictly-then x y z p q r P h k = not-less (λ (l : z * p ≤ x * r). not-le-of-lt k (through z x y r p q P l h))
-  where
-    not-less : {a b : ℕ} → (b ≤ a → ⊥) → a < b
-    not-less n = omega arith
+strictly-then x y z p q r P h k = lt-of-not-le (λ (l : z * p ≤ x * r). not-le-of-lt k (through z x y r p q P l h))
 
 nothing : (x p : ℕ) → 0 < p → x * p ≡ 0 → x ≡ 0
 nothing x p P h = small (λ (l : 0 < x). positive (mul-pos l P) h)
@@ -173,7 +168,7 @@ short (fin s m e) (fin t n d) (fin u k c) h g = short-fin s t u (m * up e) (n * 
 
 -- ---- of two numbers
 
-irreflexive : (x : Float) → lt x x ≡ false
+pub irreflexive : (x : Float) → lt x x ≡ false
 unfolding lt
 irreflexive nan = refl
 irreflexive (inf true) = refl
@@ -186,11 +181,11 @@ under-not-over x y h = past x y y h (irreflexive y)
 
 pub one-way : (x y : Float) → lt x y ≡ true → lt y x ≡ false
 unfolding le
-one-way x y h = go (lt y x) (eq y x) (under-not-over x y h)
-  where
-    go : (a b : Bool) → (a || b) ≡ false → a ≡ false
-    go true b e = e
-    go false b e = refl
+one-way x y h = or-eq-false-eq-eq-false-and-eq-false (lt y x) (eq y x) .0 (under-not-over x y h) .0
+
+pub lt-le : (x y : Float) → lt x y ≡ true → le x y ≡ true
+unfolding le
+lt-le x y h = or-inl (lt x y) (eq x y) h
 
 pub itself : (x : Float) → eq x x ≡ false → x ≡ nan
 unfolding eq
@@ -207,11 +202,161 @@ pub nan-under : (x y : Float) → eq x x ≡ false → lt x y ≡ false
 unfolding lt
 nan-under x y h = rw (itself x h) refl
 
+pub lt-nan : (x : Float) → lt x nan ≡ false
+unfolding lt
+lt-nan nan = refl
+lt-nan (inf s) = refl
+lt-nan (fin s m e) = refl
+
+pub le-nan : (x : Float) → le x nan ≡ false
+unfolding le lt eq
+le-nan nan = refl
+le-nan (inf s) = refl
+le-nan (fin s m e) = refl
+
 pub under-nan : (x y : Float) → eq y y ≡ false → lt x y ≡ false
 unfolding lt
-under-nan x y h = rw (itself y h) (go x)
+under-nan x y h = rw (itself y h) (lt-nan x)
+
+-- ---- not below one another: at least
+
+-- two numbers by signs and counts
+level-or : (a b : ℕ) → a ≤ b → (ltb a b || (eqb a b && true)) ≡ true
+level-or a b l = go (ltb a b) refl
   where
-    go : (x : Float) → lt x nan ≡ false
-    go nan = refl
-    go (inf s) = refl
-    go (fin s m e) = refl
+    go : (t : Bool) → ltb a b ≡ t → (t || (eqb a b && true)) ≡ true
+    go true e = refl
+    go false e = rw (eq-eqb a b (let h : b ≤ a = ltb-false a b e in omega arith)) refl
+
+level-or-down : (a b : ℕ) → b ≤ a → (ltb b a || (eqb a b && true)) ≡ true
+level-or-down a b l = go (ltb b a) refl
+  where
+    go : (t : Bool) → ltb b a ≡ t → (t || (eqb a b && true)) ≡ true
+    go true e = refl
+    go false e = rw (eq-eqb a b (let h : a ≤ b = ltb-false b a e in omega arith)) refl
+
+both-none : (a b : ℕ) → a + b ≤ 0 → (eqb a b && eqb a 0) ≡ true
+both-none a b l = rw (eq-eqb a b (omega arith), eq-eqb a 0 (omega arith)) refl
+
+none-or : (a b : ℕ) → (ltb 0 (a + b) || (eqb a b && eqb a 0)) ≡ true
+none-or a b = go (ltb 0 (a + b)) refl
+  where
+    go : (t : Bool) → ltb 0 (a + b) ≡ t → (t || (eqb a b && eqb a 0)) ≡ true
+    go true e = refl
+    go false e = both-none a b (ltb-false 0 (a + b) e)
+
+at-least-fin : (s t : Bool) (a b : ℕ) → below t b s a ≡ false → (below s a t b || level s a t b) ≡ true
+at-least-fin false false a b h = level-or a b (ltb-false b a h)
+at-least-fin false true a b h = both-none a b (let l : b + a ≤ 0 = ltb-false 0 (b + a) h in omega arith)
+at-least-fin true false a b h = none-or a b
+at-least-fin true true a b h = level-or-down a b (ltb-false a b h)
+
+numbers : (b g : Float) → eq b b ≡ true → isNan g ≡ false → lt g b ≡ false → le b g ≡ true
+unfolding le lt eq isNan
+numbers nan g e n h = absurd (false≢true e)
+numbers (inf s) nan e n h = absurd (true≢false n)
+numbers (inf true) (inf true) e n h = refl
+numbers (inf true) (inf false) e n h = refl
+numbers (inf false) (inf true) e n h = absurd (true≢false h)
+numbers (inf false) (inf false) e n h = refl
+numbers (inf true) (fin t k d) e n h = refl
+numbers (inf false) (fin t k d) e n h = absurd (true≢false h)
+numbers (fin s m c) nan e n h = absurd (true≢false n)
+numbers (fin s m c) (inf true) e n h = absurd (true≢false h)
+numbers (fin s m c) (inf false) e n h = refl
+numbers (fin s m c) (fin t k d) e n h = at-least-fin s t (m * up c * down d) (k * up d * down c) h
+
+-- a number that is not below b is at least b, where b is one itself
+pub at-least : (b g : Float) → isNan g ≡ false → lt g b ≡ false → le b g ≡ eq b b
+unfolding le lt eq
+at-least b g n h = go (eq b b) refl
+  where
+    go : (t : Bool) → eq b b ≡ t → le b g ≡ t
+    go true e = numbers b g e n h
+    go false e = rw (itself b e) refl
+
+-- ---- below: less than what is above
+
+le-of-lt : (x y : Float) → lt x y ≡ true → le x y ≡ true
+unfolding le
+le-of-lt x y h = rw h refl
+
+-- x below y and y below z
+pub lt-trans : (x y z : Float) → lt x y ≡ true → lt y z ≡ true → lt x z ≡ true
+lt-trans x y z h g = go (lt x z) refl
+  where
+    go : (t : Bool) → lt x z ≡ t → t ≡ true
+    go true e = refl
+    go false e = sym (short x y z h e) ∙ le-of-lt y z g
+
+-- x below z and not below the number y, so y is below z
+pub lt-from : (x y z : Float) → isNan y ≡ false → lt x z ≡ true → lt x y ≡ false → lt y z ≡ true
+lt-from x y z n h g = go (lt y z) refl
+  where
+    go : (t : Bool) → lt y z ≡ t → t ≡ true
+    go true e = refl
+    go false e = number (eq z z) refl
+      where
+        number : (t : Bool) → eq z z ≡ t → false ≡ true
+        number true d = sym (short x z y h g) ∙ at-least z y n e ∙ d
+        number false d = sym (under-nan x z d) ∙ h
+
+-- what is below something is a number
+pub lt-number : (x y : Float) → lt x y ≡ true → isNan x ≡ false
+unfolding lt isNan
+lt-number nan y h = absurd (false≢true h)
+lt-number (inf s) y h = refl
+lt-number (fin s m e) y h = refl
+
+-- ---- of two numbers, one is at most the other
+
+eq-number : (x : Float) → eq x x ≡ true → isNan x ≡ false
+unfolding eq isNan
+eq-number nan e = absurd (false≢true e)
+eq-number (inf s) e = refl
+eq-number (fin s m d) e = refl
+
+pub over : (x y : Float) → eq x x ≡ true → eq y y ≡ true → le x y ≡ false → lt y x ≡ true
+over x y a b h = go (lt y x) refl
+  where
+    go : (t : Bool) → lt y x ≡ t → lt y x ≡ true
+    go true e = e
+    go false e = absurd (false≢true (sym h ∙ at-least x y (eq-number y b) e ∙ a))
+
+from-nan : (x : Float) → le nan x ≡ false
+unfolding lt le eq
+from-nan nan = refl
+from-nan (inf true) = refl
+from-nan (inf false) = refl
+from-nan (fin s m e) = refl
+
+-- what a number is compared with is a number
+right-number : (x y : Float) → le x y ≡ true → eq y y ≡ true
+right-number x y h = go (eq y y) refl
+  where
+    go : (t : Bool) → eq y y ≡ t → eq y y ≡ true
+    go true e = e
+    go false e = absurd (false≢true (sym (le-nan x) ∙ sym (ap (le x) (itself y e)) ∙ h))
+
+left-number : (x y : Float) → le x y ≡ true → eq x x ≡ true
+left-number x y h = go (eq x x) refl
+  where
+    go : (t : Bool) → eq x x ≡ t → eq x x ≡ true
+    go true e = e
+    go false e = absurd (false≢true (sym (from-nan y) ∙ sym (ap (λ (z : Float). le z y) (itself x e)) ∙ h))
+
+-- what a number is at least, or at most, holds of one that is not above it, or not below it
+module _ (a b p : Float) (m : eq b b ≡ true) where
+  pub low-too : lt a b ≡ false → le a p ≡ true → le b p ≡ true
+  low-too h k = go (le b p) refl
+    where
+      go : (t : Bool) → le b p ≡ t → le b p ≡ true
+      go true e = e
+      go false e = absurd (false≢true (sym (past p b a (over b p m (right-number a p k) e) h) ∙ k))
+
+  pub high-too : lt b a ≡ false → le p a ≡ true → le p b ≡ true
+  high-too h k = go (le p b) refl
+    where
+      go : (t : Bool) → le p b ≡ t → le p b ≡ true
+      go true e = e
+      go false e = absurd (false≢true (sym (short b p a (over p b (left-number p a k) m e) h) ∙ k))

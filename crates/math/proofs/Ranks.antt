@@ -2,17 +2,19 @@
 use mathlib.Core.Path.{_≡_, refl, sym, ap, _∙_, subst}
 use mathlib.Core.Bool.{Bool, Bool·beq, true, false, _&&_, _||_}
 use Prim.Native.Nat.{ℕ, _+_, _*_, _^_, _≤_, _<_}
-use native.Mathlib.Nat.{le-trans, le-of-eq, add-mul, mul-lt-mul-of-pos-right, mul-le-mul-right, lt-of-mul-lt-mul-right, le-of-mul-le-mul-right}
+use native.Mathlib.Nat.{le-trans, le-of-eq, add-mul, mul-lt-mul-of-pos-right, mul-le-mul-right, lt-of-mul-lt-mul-right, le-of-mul-le-mul-right, le-of-lt}
 use native.Mathlib.Nat.{mul-pos, mul-comm, mul-assoc, mul-right-comm}
 use native.Mathlib.Omega.{arith}
 use lib.Dec.{T, ltb, eqb}
 use lib.Pow.{pow-pos}
-use lib.Ieee.{Float, nan, inf, fin, up, down, lt, eq, below, level}
+use lib.Ieee.{Float, nan, inf, fin, up, down, lt, eq, below, level, le}
 use lib.Ieee.Exact.{HasValue}
 use lib.Ieee.Fits.{down-pos}
 use borrow.Author.Tests.{ltb-true, ltb-false, lt-ltb, le-ltb, eq-eqb, ne-eqb, eqb-true, eqb-false}
+use Rattle.hypotenuse.proofs.Order.{le-of-not-lt}
 use Rattle.math.proofs.Signed.{Signed}
 use Rattle.math.proofs.Operations.{unit, signed, Is, by-sign, scaled-units}
+use Rattle.math.proofs.Laws.{or-le}
 
 -- a / c against b / d, which are P and Q units
 pub units-order : (a c b d P Q u : ℕ) → 0 < c → 0 < d → a * u ≡ P * c → b * u ≡ Q * d → a * d ≤ b * c → P ≤ Q
@@ -28,8 +30,8 @@ record Fractions (a b c P Q : ℕ) : Type 0 where
   first : a * unit ≡ P * c
   second : b * unit ≡ Q * c
 
-turned : {a b c P Q : ℕ} → Fractions a b c P Q → Fractions b a c Q P
-turned f = record { some = f .some; first = f .second; second = f .first }
+swapped : {a b c P Q : ℕ} → Fractions a b c P Q → Fractions b a c Q P
+swapped f = record { some = f .some; first = f .second; second = f .first }
 
 -- 0 against their sum
 summed : {a b c P Q : ℕ} → Fractions a b c P Q → Fractions 0 (a + b) c 0 (P + Q)
@@ -71,14 +73,11 @@ eqb-scaled {a} {b} {c} {P} {Q} f = go (eqb a b) refl
     same x y h k = omega arith
 
     equal : a ≡ b → P ≡ Q
-    equal e = same P Q (most-scaled (turned f) (omega arith)) (most-scaled f (omega arith))
+    equal e = same P Q (most-scaled (swapped f) (omega arith)) (most-scaled f (omega arith))
 
     units-equal : P ≡ Q → a ≡ b
-    units-equal e = same a b (not-less (λ (h : b < a). let l = less-scaled (turned f) h in omega arith))
-        (not-less (λ (h : a < b). let l = less-scaled f h in omega arith))
-      where
-        not-less : {x y : ℕ} → (y < x → ⊥) → x ≤ y
-        not-less n = omega arith
+    units-equal e = same a b (le-of-not-lt (λ (h : b < a). let l = less-scaled (swapped f) h in omega arith))
+        (le-of-not-lt (λ (h : a < b). let l = less-scaled f h in omega arith))
 
     go : (t : Bool) → eqb a b ≡ t → eqb a b ≡ eqb P Q
     go true h = h ∙ sym (eq-eqb P Q (equal (eqb-true a b h)))
@@ -88,7 +87,7 @@ below-scaled : (s t : Bool) {a b c P Q : ℕ} → Fractions a b c P Q → below 
 below-scaled false false f = ltb-scaled f
 below-scaled false true f = refl
 below-scaled true false f = ltb-scaled (summed f)
-below-scaled true true f = ltb-scaled (turned f)
+below-scaled true true f = ltb-scaled (swapped f)
 
 level-scaled : (s t : Bool) {a b c P Q : ℕ} → Fractions a b c P Q → level s a t b ≡ level s P t Q
 level-scaled s t {a} {b} {c} {P} {Q} f =
@@ -125,6 +124,16 @@ eq-units (fin s' m e) (fin t' n d) s t P Q u v =
     ap (λ (b : Bool). level b (m * up e * down d) t' (n * up d * down e)) (u .0)
     ∙ ap (λ (b : Bool). level s (m * up e * down d) b (n * up d * down e)) (v .0)
     ∙ level-scaled s t (fractions (m * up e) (down e) (n * up d) (down d) P Q (down-pos e) (down-pos d) (u .1) (v .1))
+
+-- ---- of numbers that are not negative
+
+pub lt-most : (x y : Float) (P Q : ℕ) → HasValue x false P (2 ^ 1074) → HasValue y false Q (2 ^ 1074) → lt x y ≡ true → P ≤ Q
+lt-most x y P Q u v h = le-of-lt (ltb-true P Q (sym (lt-units x y false false P Q u v) ∙ h))
+
+pub le-most : (x y : Float) (P Q : ℕ) → HasValue x false P (2 ^ 1074) → HasValue y false Q (2 ^ 1074) → le x y ≡ true → P ≤ Q
+unfolding le
+le-most x y P Q u v h =
+    or-le P Q (ap (λ (t : Bool). t || (eqb P Q && true)) (sym (lt-units x y false false P Q u v)) ∙ ap (λ (t : Bool). lt x y || t) (sym (eq-units x y false false P Q u v)) ∙ h)
 
 -- ---- as signed numbers
 

@@ -167,10 +167,10 @@ close-times {r} {a} {c} {e} {h} x y = go (order (c .plus) (c .minus))
 -- two products
 pub close-product : {r a s b : Signed} {e f h w : ℕ} → Close r a e → Close s b f → Small s h → Small a w
     → Close (r ⊗ s) (a ⊗ b) (e * h + f * w)
-close-product {r} {a} {s} {b} {e} {f} {h} {w} x y p q = close-trans {a = a ⊗ s} (close-times x p) (turn (close-times y q))
+close-product {r} {a} {s} {b} {e} {f} {h} {w} x y p q = close-trans {a = a ⊗ s} (close-times x p) (swap (close-times y q))
   where
-    turn : Close (s ⊗ a) (b ⊗ a) (f * w) → Close (a ⊗ s) (a ⊗ b) (f * w)
-    turn z = record { above = omega (arith, z .above); below = omega (arith, z .below) }
+    swap : Close (s ⊗ a) (b ⊗ a) (f * w) → Close (a ⊗ s) (a ⊗ b) (f * w)
+    swap z = record { above = omega (arith, z .above); below = omega (arith, z .below) }
 
 -- the product of two small numbers
 pub small-product : {a b : Signed} {w h : ℕ} → Small a w → Small b h → Small (a ⊗ b) (w * h)

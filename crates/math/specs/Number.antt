@@ -38,7 +38,8 @@ abs nan = nan
 abs (inf s) = inf false
 abs (fin s m e) = fin false m e
 
--- `f64::min` and `f64::max`: they pass over a NaN (01, polygon.rs). Which zero they give is not compared; of two equal ones this gives the second.
+-- `f64::min` and `f64::max`: they pass over a NaN (01, polygon.rs). Which zero they give is not compared; of two equal ones this gives the
+-- second.
 unfoldable pub fmin : Float → Float → Float
 fmin x y = cond (lt x y) x (cond (eq y y) y x)
 
@@ -67,5 +68,7 @@ distance x = cond (finite x) x zero-float
 
 -- opens every definition above, for a proof that computes with all of them
 unfoldable pub open-number : Unit {0}
-unfolding abs fmin fmax finite raised lowered clamp distance lib.Ieee.add lib.Ieee.sub lib.Ieee.mul lib.Ieee.div lib.Ieee.neg lib.Ieee.sum lib.Ieee.round lib.Ieee.units lib.Ieee.odd lib.Ieee.size lib.Ieee.span lib.Ieee.climb lib.Ieee.lt lib.Ieee.le lib.Ieee.eq lib.Ieee.ofBits lib.Ieee.ofFields lib.Ieee.ofInt lib.Count.trailingZeros
+unfolding abs fmin fmax finite raised lowered clamp distance lib.Ieee.add lib.Ieee.sub lib.Ieee.mul lib.Ieee.div lib.Ieee.neg lib.Ieee.sum
+    lib.Ieee.round lib.Ieee.units lib.Ieee.odd lib.Ieee.size lib.Ieee.span lib.Ieee.climb lib.Ieee.lt lib.Ieee.le lib.Ieee.eq
+    lib.Ieee.ofBits lib.Ieee.ofFields lib.Ieee.ofInt lib.Count.trailingZeros
 open-number = tt

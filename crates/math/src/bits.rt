@@ -1,4 +1,4 @@
-// The fields of a double's 64 bits: sign, exponent, digits. And `pick`, the choice between two whole numbers.
+// The fields of a double's 64 bits: sign, exponent, digits. And of whole numbers `pick`, the choice between two, and `power`.
 ghost use mathlib.Core.Path.{_≡_};
 ghost use mathlib.Core.Bool.{cond};
 ghost use Prim.Native.Nat.{_%_, _^_};
@@ -12,6 +12,13 @@ pub fn pick(test: bool, a: u64, b: u64) -> u64
     ensures { λ r. ⌜ r ≡ cond test a b ⌝ }
 {
     if test { a } else { b }
+}
+
+// 2^n where n is below 64.
+pub fn power(n: u64) -> u64
+    ensures { λ r. ⌜ r ≡ 2 ^ (n % 64) ⌝ }
+{
+    1u64 << (n % 64)
 }
 
 // The pattern without its sign.

@@ -89,7 +89,7 @@ fn refine(start: Root, base: u64, mid: u64, low: u64) -> Root
     }
 }
 
-// A number near 1 over the root of v, within some hundredths of it: half the exponent, turned round.
+// A number near 1 over the root of v, within some hundredths of it: half the exponent, its sign changed.
 fn start(v: f64) -> f64 {
     if v != v {
         return v;
@@ -172,14 +172,6 @@ fn square(m: u64) -> Wide
     }
 }
 
-// 2^n.
-fn power(n: u64) -> u64
-    requires { ⌜ n < 64 ⌝ }
-    ensures { λ r. ⌜ r ≡ 2 ^ n ⌝ }
-{
-    1u64 << n
-}
-
 // w / 2^n, for an n up to 54.
 fn shrink(w: Wide, n: u64) -> Cut
     requires { ⌜ n ≤ 54 ⌝ }
@@ -187,8 +179,8 @@ fn shrink(w: Wide, n: u64) -> Cut
     requires { ⌜ w .lo < 2 ^ 54 ⌝ }
     ensures { λ r. ⌜ CutOf (w .hi * 2 ^ 54 + w .lo) n (r .hi) (r .lo) (r .lost) ⌝ }
 {
-    let unit = power(n);
-    let over = power(54 - n);
+    let unit = bits::power(n);
+    let over = bits::power(54 - n);
     let hi = w.hi / unit;
     let lo = w.hi % unit * over + w.lo / unit;
     Cut {
@@ -240,7 +232,9 @@ fn rounded(x: u64, root: u64, rest: u64) -> u64
     requires { ⌜ x ≤ 2045 ⌝ }
     requires { ⌜ root < 2 ^ 55 ⌝ }
     requires { ⌜ (0 < x → 2 ^ 53 ≤ root) ⌝ }
-    ensures { λ r. ⌜ (r ≤ 0x7ff0_0000_0000_0000) × ((s : ℕ) → Twice s (2 * x) root rest → ofBits binary64 r ≡ round-root binary64 s) ⌝ }
+    ensures { λ r. ⌜
+        (r ≤ 0x7ff0_0000_0000_0000) × ((s : ℕ) → Twice s (2 * x) root rest → ofBits binary64 r ≡ round-root binary64 s)
+        ⌝ }
 {
     let short = root < WORD;
     let digits = bits::pick(short, root * 2, root);
@@ -252,7 +246,9 @@ fn rounded(x: u64, root: u64, rest: u64) -> u64
 fn of_finite(a: u64, b: u64) -> u64
     requires { ⌜ b ≤ a ⌝ }
     requires { ⌜ a < 0x7ff0_0000_0000_0000 ⌝ }
-    ensures { λ r. ⌜ (r ≤ 0x7ff0_0000_0000_0000) × (ofBits binary64 r ≡ round-root binary64 (units-of a * units-of a + units-of b * units-of b)) ⌝ }
+    ensures { λ r. ⌜
+        (r ≤ 0x7ff0_0000_0000_0000) × (ofBits binary64 r ≡ round-root binary64 (units-of a * units-of a + units-of b * units-of b))
+        ⌝ }
 {
     let x = bits::exponent(a);
     let d = x - bits::exponent(b);

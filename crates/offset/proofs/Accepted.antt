@@ -1,23 +1,20 @@
 -- An outline and an offset that are accepted pass 21 again; an offset accepted at a distance above 0 is simple and keeps clear of its source. Assumes nothing.
 use lib.Ieee
-use Prim.Native.Nat.{ℕ, _*_, _/_, _%_, _<_}
-use native.Mathlib.Nat.{zero-add}
-use mathlib.Core.Path.{_≡_, refl, sym, _∙_, subst}
+use Prim.Native.Nat.{ℕ, _*_, _<_}
+use mathlib.Core.Path.{_≡_, refl, sym, _∙_}
 use mathlib.Core.Bool.{Bool, true, false, cond, not, _&&_, false≢true}
 use mathlib.Core.List.{List}
+use mathlib.Mathlib.Data.Bool.Basic.{and-elim-left, and-elim-right}
 use native.Mathlib.Omega.{arith}
 use borrow.Author.Tests.{ltb-true, ne-eqb, not-true}
-use lib.Dec.{eqb}
-use lib.ListN.{length, replicate, length-replicate}
 use lib.Ieee.{Float, nan, inf, fin, lt, le, eq, up, down}
 use Rattle.plane.specs.declared.PlanarPoint.{PlanarPoint}
 use Rattle.plane.specs.declared.Containment.{Containment}
 use Rattle.plane.specs.declared.Containment.the-variants.{Inside, OnBoundary, Outside}
 use Rattle.error.specs.declared.Refusal.{Refusal}
-use Rattle.error.specs.declared.Refusal.the-variants.{Granted, Splits, Collapses, Shape, Odd}
-use Rattle.ringcheck.specs.declared.Checked.{Checked}
-use Rattle.polygon.specs.declared.Outline.{Outline}
-use Rattle.polygon.specs.declared.NewOutline.{NewOutline}
+use Rattle.error.specs.declared.Refusal.the-variants.{Granted, Splits, Collapses, Shape}
+use Rattle.outline.specs.declared.Outline.{Outline}
+use Rattle.outline.specs.declared.NewOutline.{NewOutline}
 use Rattle.front.specs.declared.Edge.{Edge}
 use Rattle.front.specs.declared.Walk.{Walk}
 use Rattle.front.specs.declared.Sweep.{Sweep}
@@ -29,25 +26,25 @@ use Rattle.math.specs.Number
 use Rattle.math.specs.Number.{zero-float}
 use Rattle.error.specs.Refusals.{number, values, granted}
 use Rattle.segment.specs.Segments.{segments-meet}
-use Rattle.ring.specs.Ring.{vertex-at, edge-end, stored-at}
-use Rattle.measures.specs.Measures.{signed-area, extent}
-use Rattle.ring.specs.Store.{stored}
-use Rattle.ringcheck.specs.Checks.{check-ring}
-use Rattle.contain.specs.Contains.{ring-contains}
-use Rattle.near.specs.Near.{nearest}
-use Rattle.meet.specs.Meet.{meet-step, meets-edge, rings-meet-step, rings-meet}
-use Rattle.polygon.specs.Outlines.{proper, no-outline, stored-outline, outline-refused, outline-of, outline-if, new-outline, outline, offset-tolerance, check-finite}
-use Rattle.front.proofs.Demand.Choice.{and-left, and-right}
+use Rattle.ring.specs.Ring.{vertex-at, edge-end}
+use Rattle.ring_measure.specs.Measures.{signed-area, extent}
+use Rattle.ring_contain.specs.Contains.{ring-contains}
+use Rattle.ring_near.specs.Near.{nearest}
+use Rattle.ring_cross.specs.Meet.{meet-step, meets-edge, rings-meet-step, rings-meet}
+use Rattle.outline.specs.Outlines.{proper, no-outline, outline-refused, offset-tolerance}
 use Rattle.offset.specs.Clear.{is-inside, is-outside, right-side, every-step, every-vertex}
 use Rattle.offset.specs.Rings.{offset-piece}
-use Rattle.offset.specs.Offsets.{check-distance, pieces-refused, expected, with-piece, visit-piece, pieces-refusal, pieces, clear-of, keeps-clear, offset-clear, offset-found, offset-finished, offset-swept, offset-counted, offset-plain, sweep, offset-from, offset-by, offset}
+use Rattle.offset.specs.Offsets.{check-distance, pieces-refused, expected, with-piece, visit-piece, pieces-refusal, pieces, clear-of, keeps-clear, offset-clear, offset-found, offset-finished, offset-swept, offset-counted}
+use Rattle.offset.specs.Offsets.{offset-plain, sweep, offset-from, offset-by, offset}
 use Rattle.offset.specs.Answers.{KeptClear, OffsetAccepted, NewOutlineProper, OutlineProper, OffsetProper}
-use Rattle.loops.proofs.Tests.{none-pass}
-use Rattle.offset.proofs.Choices.{either, both, all-pass}
+use Rattle.base.proofs.Tests.{none-pass, all-pass}
+use Rattle.base.proofs.Choices.{by-test}
+use Rattle.base.proofs.Choices.{both}
 use Rattle.offset.proofs.Visits.{visits-keep}
-use Rattle.offset.proofs.Storing.{stored-new}
-use Rattle.offset.proofs.Passes.{Passed, check-sound, PassedPiece, piece-sound}
-use Rattle.offset.proofs.Good.{GoodRing, good-ring, good-proper}
+use Rattle.offset.proofs.Passes.{PassedPiece, piece-sound}
+use Rattle.outline.proofs.Outlines as outlines
+use Rattle.outline.proofs.Good.{GoodRing, good-proper}
+use Rattle.outline.proofs.Outlines.{outline-good}
 
 -- ---- what the tests of a ring say of each vertex and each edge
 
@@ -77,46 +74,13 @@ side-is true OnBoundary q = absurd (false≢true q)
 side-is true Outside q = refl
 side-is false c q = inside-is c q
 
--- ---- a ring stored as an outline
-
-pub outline-good : (ps : List Float) (n m : ℕ) (back : Bool) → Passed 128 ps n m back
-    → GoodRing 128 ((stored-outline ps m back) .points) ((stored-outline ps m back) .count)
-unfolding stored-outline
-outline-good ps n m back p =
-    let out : List Float = replicate 256 zero-float in
-    good-ring 128 ps n m back (stored ps m back 0 out) p
-    (λ k l. subst (λ (i : ℕ). vertex-at (stored ps m back 0 out) i ≡ stored-at ps m back k) (zero-add k)
-    (stored-new ps m back 0 out (omega (arith, length-replicate 256 zero-float, p .fits)) k l))
-
 -- ---- an outline from numbers
 
-pub record GoodNew (a : NewOutline) : Type 0 where
-  pub good : granted (a .refusal) ≡ true → GoodRing 128 (a .shape .points) (a .shape .count)
-
-refused-good : (r : Refusal) → granted r ≡ false → GoodNew (outline-refused r)
-unfolding outline-refused
-refused-good r h = record { good = λ q. absurd (false≢true (sym h ∙ q)) }
-
-new-outline-sound : (ps : List Float) (n : ℕ) → GoodNew (new-outline ps n)
-unfolding new-outline outline-of granted number values
-new-outline-sound ps n =
-    let c : Checked = check-ring 128 0 ps n in
-    either GoodNew (granted (c .refusal))
-    (λ h. record { good = λ q. outline-good ps n (c .count) (c .back) (check-sound 128 0 ps n h) })
-    (λ h. refused-good (c .refusal) h)
-
 pub new-outline-proper : NewOutlineProper
-new-outline-proper ps n q = good-proper 128 ((new-outline ps n) .shape .points) ((new-outline ps n) .shape .count) (new-outline-sound ps n .good q)
-
-pub outline-sound : (ps : List Float) → GoodNew (outline ps)
-unfolding outline outline-if granted number values
-outline-sound ps =
-    both GoodNew (eqb (length ps % 2) 0)
-    (either GoodNew (granted (check-finite ps)) (λ f. new-outline-sound ps (length ps / 2)) (λ f. refused-good (check-finite ps) f))
-    (refused-good Odd refl)
+new-outline-proper = outlines.new-outline-proper
 
 pub outline-proper : OutlineProper
-outline-proper ps q = good-proper 128 ((outline ps) .shape .points) ((outline ps) .shape .count) (outline-sound ps .good q)
+outline-proper = outlines.outline-proper
 
 -- ---- an offset
 
@@ -169,8 +133,8 @@ module _ (o : Outline) (outward : Bool) (d : Float) where
       record {
         simple = g .simple;
         side = λ k l. side-is outward (ring-contains (o .points) (o .count) (vertex-at (q .points) k))
-            (and-left (right-side outward (ring-contains (o .points) (o .count) (vertex-at (q .points) k))) (le least ((nearest (o .points) (o .count) (vertex-at (q .points) k)) .gap)) (each k l));
-        gap = λ k l. and-right (right-side outward (ring-contains (o .points) (o .count) (vertex-at (q .points) k))) (le least ((nearest (o .points) (o .count) (vertex-at (q .points) k)) .gap)) (each k l);
+            (and-elim-left (right-side outward (ring-contains (o .points) (o .count) (vertex-at (q .points) k))) (le least ((nearest (o .points) (o .count) (vertex-at (q .points) k)) .gap)) (each k l));
+        gap = λ k l. and-elim-right (right-side outward (ring-contains (o .points) (o .count) (vertex-at (q .points) k))) (le least ((nearest (o .points) (o .count) (vertex-at (q .points) k)) .gap)) (each k l);
         apart = none-meet (q .points) (q .count) (o .points) (o .count) b;
       }
 
@@ -181,19 +145,19 @@ module _ (o : Outline) (outward : Bool) (d : Float) where
       let q : Outline = p .shape in
       let a : Bool = keeps-clear outward (Number.sub d tolerance) (o .points) (o .count) (q .points) (q .count) in
       let b : Bool = rings-meet (q .points) (q .count) (o .points) (o .count) in
-      either (AcceptedNew o outward d) (granted (p .refusal))
-      (λ h. either (AcceptedNew o outward d) (p .found)
+      by-test (AcceptedNew o outward d) (granted (p .refusal))
+      (λ h. by-test (AcceptedNew o outward d) (p .found)
       (λ z.
       let g : GoodRing 128 (q .points) (q .count) = pieces-good f (vertex-at (o .points) 0) outward d tolerance .good z in
-      either (AcceptedNew o outward d) (a && not b)
-      (λ e. record { accepted = record { good = λ t. g; clear = λ t. kept-clear q g (and-left a (not b) e) (not-true b (and-right a (not b) e)) } })
+      by-test (AcceptedNew o outward d) (a && not b)
+      (λ e. record { accepted = record { good = λ t. g; clear = λ t. kept-clear q g (and-elim-left a (not b) e) (not-true b (and-elim-right a (not b) e)) } })
       (λ e. refused-accepted (Splits d) refl))
       (λ z. refused-accepted (Collapses d) refl))
       (λ h. refused-accepted (p .refusal) h)
 
   swept-accepted : (s : Sweep) → AcceptedNew o outward d (offset-swept o outward d s)
   unfolding offset-swept
-  swept-accepted s = either (AcceptedNew o outward d) (granted (s .refusal)) (λ h. finished-accepted (s .edges)) (λ h. refused-accepted (s .refusal) h)
+  swept-accepted s = by-test (AcceptedNew o outward d) (granted (s .refusal)) (λ h. finished-accepted (s .edges)) (λ h. refused-accepted (s .refusal) h)
 
 record AcceptedOffset (o : Outline) (outward : Bool) (d : Float) (a : Offset) : Type 0 where
   proper : granted (a .refusal) ≡ true → proper 128 (a .shape .points) (a .shape .count) ≡ true
@@ -213,15 +177,15 @@ from-accepts o outward d s =
 by-accepts : (o : Outline) (outward : Bool) (d : Float) (r : Refusal) → proper 128 (o .points) (o .count) ≡ true → AcceptedOffset o outward d (offset-by o outward d r)
 unfolding offset-by offset-plain
 by-accepts o outward d r p =
-    either (AcceptedOffset o outward d) (granted r)
-    (λ g. either (AcceptedOffset o outward d) (eq d zero-float) (λ z. record { proper = λ q. p; clear = λ q e. absurd (false≢true (sym e ∙ z)) })
+    by-test (AcceptedOffset o outward d) (granted r)
+    (λ g. by-test (AcceptedOffset o outward d) (eq d zero-float) (λ z. record { proper = λ q. p; clear = λ q e. absurd (false≢true (sym e ∙ z)) })
     (λ z. from-accepts o outward d (sweep o outward d)))
     (λ g. plain-accepted o outward d r g)
 
 offset-accepts : (o : Outline) (outward : Bool) (d : Float) → AcceptedOffset o outward d (offset o outward d)
 unfolding offset granted number values
 offset-accepts o outward d =
-    either (AcceptedOffset o outward d) (proper 128 (o .points) (o .count)) (λ p. by-accepts o outward d (check-distance d) p) (λ p. plain-accepted o outward d Shape refl)
+    by-test (AcceptedOffset o outward d) (proper 128 (o .points) (o .count)) (λ p. by-accepts o outward d (check-distance d) p) (λ p. plain-accepted o outward d Shape refl)
 
 pub offset-proper : OffsetProper
 offset-proper o outward d q = offset-accepts o outward d .proper q

@@ -18,14 +18,14 @@ use Rattle.front.specs.declared.Vertex.{Vertex}
 use Rattle.front.specs.declared.Vertex.the-variants.{NoVertex, Moving}
 use Rattle.math.specs.Number.{add}
 use Rattle.error.specs.Refusals.{number, values, granted}
-use Rattle.loops.specs.Loop.{rounds}
-use Rattle.loops.proofs.Laws.{rounds-keep, still}
+use Rattle.base.specs.Loop.{rounds}
+use Rattle.base.proofs.Laws.{rounds-keep, still}
+use Rattle.base.proofs.Choices.{both}
 use Rattle.front.specs.Edges.{vertex, collapse}
 use Rattle.front.specs.Tidying.{tidy}
 use Rattle.front.specs.NextEvent.{next-event}
 use Rattle.front.specs.Splitting.{free, one-ring}
 use Rattle.front.specs.Sweeps.{sweep-refused, sweep-ended, swept-collapse, swept-divide, swept-join, swept-split, split-into, split-of, split-at, split, sweep-event, sweep-tidied, sweep-step, sweep-from, finished, offset-rings}
-use Rattle.offset.proofs.Choices.{both}
 use Rattle.offset.proofs.Other.{Other, granted-other, splits-other}
 
 pub record Carried (u : Refusal) : Type 0 where

@@ -7,23 +7,23 @@ use native.Mathlib.Omega.{arith}
 use lib.Dec.{leb}
 use lib.ListN.{length}
 use lib.Ieee.{Float, eq}
+use Rattle.base.proofs.Choices.{both}
 use Rattle.error.specs.declared.Refusal.{Refusal}
 use Rattle.error.specs.declared.Refusal.the-variants.{Granted, Shape}
-use Rattle.polygon.specs.declared.Outline.{Outline}
+use Rattle.outline.specs.declared.Outline.{Outline}
 use Rattle.front.specs.declared.Loaded.{Loaded}
 use Rattle.offset.specs.declared.Offset.{Offset}
 use Rattle.math.specs.Number.{zero-float}
 use Rattle.error.specs.Refusals.{number, values, granted}
-use Rattle.polygon.specs.Outlines.{proper, no-outline}
-use Rattle.lent.specs.Writes.{write-refusal}
+use Rattle.outline.specs.Outlines.{proper, no-outline}
+use Rattle.outline_lent.specs.Writes.{write-refusal}
 use Rattle.front.specs.Demand.{givens, run, events, tally}
 use Rattle.offset.specs.Offsets.{check-distance, outline-load, sweep, offset-counted, offset-plain, offset-from, offset-by, offset}
 use Rattle.offset.specs.Lent.{write-offset, offset-told, offset-write}
 use Rattle.offset.specs.Answers.{AnswerDemand, NoEvent, OffsetCounted, WriteAccounts}
-use Rattle.offset.proofs.Choices.{both}
 use Rattle.offset.proofs.Other.{Other, granted-other}
 use Rattle.offset.proofs.Demand.{outline-demand}
-use Rattle.offset.proofs.Answers.{distance-finite, Own, other-own, self-own, answer-demand, offset-demand, offset-before}
+use Rattle.offset.proofs.DemandAnswered.{distance-finite, Own, other-own, self-own, answer-demand, offset-demand, offset-before}
 
 module _ (o : Outline) (outward : Bool) (d : Float) where
   abbrev a : Offset

@@ -9,21 +9,21 @@ use lib.Ieee.{Float, lt}
 use Rattle.plane.specs.declared.PlanarPoint.{PlanarPoint}
 use Rattle.error.specs.declared.Refusal.{Refusal}
 use Rattle.error.specs.declared.Refusal.the-variants.{Granted, Few, Repeated, Flat, Splits, Collapses}
-use Rattle.ringcheck.specs.declared.Checked.{Checked}
-use Rattle.simple.specs.declared.Crossing.{Crossing}
-use Rattle.simple.specs.declared.Crossing.the-variants.{Simple, Edges}
+use Rattle.ring_check.specs.declared.Checked.{Checked}
+use Rattle.ring_cross.specs.declared.Crossing.{Crossing}
+use Rattle.ring_cross.specs.declared.Crossing.the-variants.{Simple, Edges}
 use Rattle.front.specs.declared.Walk.{Walk}
 use Rattle.offset.specs.declared.Piece.{Piece}
 use Rattle.offset.specs.declared.Piece.the-variants.{Shrunk, Failed, Whole}
 use Rattle.error.specs.Refusals.{number, values, granted, degenerate, offset-failure}
 use Rattle.math.specs.Number.{zero-float}
 use Rattle.ring.specs.Ring.{vertex-at}
-use Rattle.measures.specs.Measures.{signed-area, span}
-use Rattle.simple.specs.Simple.{check-simple}
-use Rattle.ringcheck.specs.Checks.{kept, beyond, vertex-refusal, range-step, check-range, repeats, flat, crossed, refused, passed, check-turned, check-area, check-shape, check-in-range, check-kept, check-ring}
-use Rattle.loops.proofs.Laws.{rounds-keep}
+use Rattle.ring_measure.specs.Measures.{signed-area, span}
+use Rattle.ring_cross.specs.Simple.{check-simple}
+use Rattle.ring_check.specs.Checks.{kept, beyond, vertex-refusal, range-step, check-range, repeats, flat, crossed, refused, passed, check-reversed, check-area, check-shape, check-in-range, check-kept, check-ring}
+use Rattle.base.proofs.Laws.{rounds-keep}
+use Rattle.base.proofs.Choices.{both}
 use Rattle.offset.specs.Rings.{check-piece, vanished, piece-by, offset-piece}
-use Rattle.offset.proofs.Choices.{both}
 
 pub record Other (r : Refusal) : Type 0 where
   pub no : number r ≢ 18
@@ -66,9 +66,9 @@ refused-other : (r : Refusal) → Other r → OtherCheck (refused r)
 unfolding refused
 refused-other r h = record { other = h }
 
-turned-other : (ring : ℕ) (ps : List Float) (n : ℕ) (back : Bool) → OtherCheck (check-turned ring ps n back)
-unfolding check-turned passed
-turned-other ring ps n back =
+reversed-other : (ring : ℕ) (ps : List Float) (n : ℕ) (back : Bool) → OtherCheck (check-reversed ring ps n back)
+unfolding check-reversed passed
+reversed-other ring ps n back =
     let r : Refusal = crossed ring n back (check-simple ps n back) in
     both OtherCheck (granted r) (record { other = granted-other }) (refused-other r (crossed-other ring n back (check-simple ps n back)))
 
@@ -77,7 +77,7 @@ unfolding check-shape check-area number values
 shape-other ring ps n =
     both OtherCheck (repeats ps n) (refused-other (Repeated ring) (record { no = λ q. omega arith }))
     (both OtherCheck (flat (signed-area ps n) (span ps n)) (refused-other (Flat ring) (record { no = λ q. omega arith }))
-    (turned-other ring ps n (lt (signed-area ps n) zero-float)))
+    (reversed-other ring ps n (lt (signed-area ps n) zero-float)))
 
 kept-other : (room ring : ℕ) (ps : List Float) (n : ℕ) → OtherCheck (check-kept room ring ps n)
 unfolding check-kept check-in-range number values

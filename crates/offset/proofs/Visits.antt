@@ -9,8 +9,8 @@ use Rattle.front.specs.declared.Edge.{Edge}
 use Rattle.front.specs.declared.Walk.{Walk}
 use Rattle.error.specs.Refusals.{granted}
 use Rattle.front.specs.Finished.{Visits, walk, starts, visited, visit-step, visits-from, for-each-ring}
-use Rattle.loops.proofs.Laws.{rounds-keep}
-use Rattle.offset.proofs.Choices.{both}
+use Rattle.base.proofs.Laws.{rounds-keep}
+use Rattle.base.proofs.Choices.{both}
 
 -- Q is what is known of every ring that is walked
 module _ {X : Type 0} (P : X → Type 0) (refusal : X → Refusal) (visit : ℕ → Walk → X → X) (f : List Edge) (t : Float) (origin : PlanarPoint)

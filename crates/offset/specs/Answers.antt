@@ -1,6 +1,6 @@
--- What holds of the answers about an outline, whatever the shape, the side and the distance, finite or not: demand 3 of what is handed back, the empty shape beside a refusal,
--- the counts before loading, what an accepted offset has passed, and lent output. Proved in `proofs/Answers.antt`, `proofs/Counted.antt`,
--- `proofs/Accepted.antt` and `proofs/Lent.antt`. Assumes nothing.
+-- What holds of the answers about an outline, whatever the shape, the side and the distance, finite or not: demand 3 of what is handed
+-- back, the empty shape beside a refusal, the counts before loading, what an accepted offset has passed, and lent output. Proved in
+-- `proofs/DemandAnswered.antt`, `proofs/Counted.antt`, `proofs/Accepted.antt` and `proofs/Lent.antt`. Assumes nothing.
 use Prim.Native.Nat.{ℕ, _+_, _*_, _≤_, _<_}
 use mathlib.Core.Path.{_≡_}
 use mathlib.Core.Bool.{Bool, true, false, cond}
@@ -10,21 +10,21 @@ use lib.Ieee.{Float, nan, lt, le, eq}
 use Rattle.plane.specs.declared.Containment.the-variants.{Inside, Outside}
 use Rattle.error.specs.declared.Refusal.{Refusal}
 use Rattle.error.specs.declared.Refusal.the-variants.{Granted, Shape}
-use Rattle.simple.specs.declared.Crossing.the-variants.{Simple}
-use Rattle.polygon.specs.declared.Outline.{Outline}
+use Rattle.ring_cross.specs.declared.Crossing.the-variants.{Simple}
+use Rattle.outline.specs.declared.Outline.{Outline}
 use Rattle.math.specs.Number
 use Rattle.math.specs.Number.{zero-float, one, add, mul}
 use Rattle.error.specs.Refusals.{number, values, granted}
 use Rattle.segment.specs.Segments.{segments-meet}
 use Rattle.ring.specs.Ring.{vertex-at, edge-end}
-use Rattle.measures.specs.Measures.{extent}
-use Rattle.simple.specs.Simple.{check-simple}
-use Rattle.contain.specs.Contains.{ring-contains}
-use Rattle.near.specs.Near.{nearest}
-use Rattle.polygon.specs.Outlines.{new-outline, outline, proper, no-outline, relative-tolerance}
+use Rattle.ring_measure.specs.Measures.{extent}
+use Rattle.ring_cross.specs.Simple.{check-simple}
+use Rattle.ring_contain.specs.Contains.{ring-contains}
+use Rattle.ring_near.specs.Near.{nearest}
+use Rattle.outline.specs.Outlines.{new-outline, outline, proper, no-outline, relative-tolerance}
 use Rattle.front.specs.declared.Loaded.{Loaded}
 use Rattle.front.specs.Demand.{tally, events, givens, run}
-use Rattle.lent.specs.Writes.{outline-write, written-outline}
+use Rattle.outline_lent.specs.Writes.{outline-write, written-outline}
 use Rattle.offset.specs.Offsets.{offset, offset-plain, check-distance, outline-load}
 use Rattle.offset.specs.Lent.{offset-write, written-offset}
 
@@ -41,7 +41,8 @@ pub record AnswerDemand (n r : ℕ) (u : Refusal) (c e j : ℕ) : Type 0 where
 abbrev pub OffsetDemand : Type 0
 OffsetDemand =
     (o : Outline) (outward : Bool) (d : Float) → proper 128 (o .points) (o .count) ≡ true →
-    AnswerDemand (o .count) 1 ((offset o outward d) .refusal) ((offset o outward d) .collapses) ((offset o outward d) .divides) ((offset o outward d) .joins)
+    AnswerDemand (o .count) 1 ((offset o outward d) .refusal) ((offset o outward d) .collapses) ((offset o outward d) .divides)
+    ((offset o outward d) .joins)
 
 -- ---- the counts handed back are those of the front's whole list of events
 
@@ -98,7 +99,8 @@ abbrev pub OutlineEmpty : Type 0
 OutlineEmpty = (ps : List Float) → granted ((outline ps) .refusal) ≡ false → EmptyOutline ((outline ps) .shape)
 
 abbrev pub OffsetEmpty : Type 0
-OffsetEmpty = (o : Outline) (outward : Bool) (d : Float) → granted ((offset o outward d) .refusal) ≡ false → EmptyOutline ((offset o outward d) .shape)
+OffsetEmpty = (o : Outline) (outward : Bool) (d : Float) → granted ((offset o outward d) .refusal) ≡ false →
+    EmptyOutline ((offset o outward d) .shape)
 
 -- ---- before the front is loaded the counts are 0: `offset-plain` has no events
 
@@ -106,12 +108,14 @@ pub record BeforeLoading (o : Outline) (outward : Bool) (d : Float) : Type 0 whe
   -- 21
   pub improper : proper 128 (o .points) (o .count) ≡ false → offset o outward d ≡ offset-plain Shape no-outline
   -- 13 and 14
-  pub refused : proper 128 (o .points) (o .count) ≡ true → granted (check-distance d) ≡ false → offset o outward d ≡ offset-plain (check-distance d) no-outline
+  pub refused : proper 128 (o .points) (o .count) ≡ true → granted (check-distance d) ≡ false →
+      offset o outward d ≡ offset-plain (check-distance d) no-outline
   -- 0 and −0: the source itself
   pub unmoved : proper 128 (o .points) (o .count) ≡ true → eq d zero-float ≡ true → offset o outward d ≡ offset-plain Granted o
   -- 15 and 16 while loading
   pub loading : proper 128 (o .points) (o .count) ≡ true → granted (check-distance d) ≡ true → eq d zero-float ≡ false →
-      granted ((outline-load o outward d) .refusal) ≡ false → offset o outward d ≡ offset-plain ((outline-load o outward d) .refusal) no-outline
+      granted ((outline-load o outward d) .refusal) ≡ false →
+      offset o outward d ≡ offset-plain ((outline-load o outward d) .refusal) no-outline
 
 abbrev pub OffsetBefore : Type 0
 OffsetBefore = (o : Outline) (outward : Bool) (d : Float) → BeforeLoading o outward d
@@ -125,10 +129,12 @@ pub record KeptClear (o : Outline) (outward : Bool) (d : Float) (q : Outline) : 
   pub side : (k : ℕ) → k < q .count → ring-contains (o .points) (o .count) (vertex-at (q .points) k) ≡ cond outward Outside Inside
   -- its gap is at least distance − 1e-9 × (1 + distance + extent)
   pub gap : (k : ℕ) → k < q .count →
-      le (Number.sub d (mul relative-tolerance (add (add one d) (extent (o .points) (o .count))))) ((nearest (o .points) (o .count) (vertex-at (q .points) k)) .gap) ≡ true
+      le (Number.sub d (mul relative-tolerance (add (add one d) (extent (o .points) (o .count)))))
+      ((nearest (o .points) (o .count) (vertex-at (q .points) k)) .gap) ≡ true
   -- no edge meets the source
   pub apart : (i k : ℕ) → i < q .count → k < o .count →
-      segments-meet (vertex-at (q .points) i) (edge-end (q .points) (q .count) i) (vertex-at (o .points) k) (edge-end (o .points) (o .count) k) ≡ false
+      segments-meet (vertex-at (q .points) i) (edge-end (q .points) (q .count) i) (vertex-at (o .points) k)
+      (edge-end (o .points) (o .count) k) ≡ false
 
 abbrev pub OffsetAccepted : Type 0
 OffsetAccepted =
@@ -144,7 +150,8 @@ NewOutlineProper =
     proper 128 ((new-outline ps n) .shape .points) ((new-outline ps n) .shape .count) ≡ true
 
 abbrev pub OutlineProper : Type 0
-OutlineProper = (ps : List Float) → granted ((outline ps) .refusal) ≡ true → proper 128 ((outline ps) .shape .points) ((outline ps) .shape .count) ≡ true
+OutlineProper = (ps : List Float) → granted ((outline ps) .refusal) ≡ true →
+    proper 128 ((outline ps) .shape .points) ((outline ps) .shape .count) ≡ true
 
 abbrev pub OffsetProper : Type 0
 OffsetProper =
@@ -166,4 +173,5 @@ OutlineLent = (o : Outline) (out : List Float) → Wrote (outline-write o out) (
 abbrev pub OffsetLent : Type 0
 OffsetLent =
     (o : Outline) (outward : Bool) (d : Float) (out : List Float) →
-    Wrote ((offset-write o outward d out) .refusal) (2 * (offset o outward d) .shape .count) ((offset o outward d) .shape .points) out (written-offset o outward d out)
+    Wrote ((offset-write o outward d out) .refusal) (2 * (offset o outward d) .shape .count) ((offset o outward d) .shape .points) out
+    (written-offset o outward d out)

@@ -6,7 +6,7 @@ use lib.Ieee.{Float}
 use Rattle.plane.specs.declared.PlanarPoint.{PlanarPoint}
 use Rattle.plane.specs.declared.Containment.{Containment}
 use Rattle.plane.specs.declared.Containment.the-variants.{Inside, OnBoundary, Outside}
-use Rattle.loops.specs.Loop.{rounds}
+use Rattle.base.specs.Loop.{rounds}
 use Rattle.ring.specs.Ring.{vertex-at}
 
 unfoldable pub is-inside : Containment → Bool

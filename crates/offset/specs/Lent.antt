@@ -1,14 +1,15 @@
--- An offset whose numbers go into lent output: the offset's own refusal first, and question 20 last. Two numbers a vertex are needed. Assumes nothing.
+-- An offset whose numbers go into lent output: the offset's own refusal first, and question 20 last. Two numbers a vertex are needed.
+-- Assumes nothing.
 use Prim.Native.Nat.{_*_}
 use mathlib.Core.Bool.{Bool, cond}
 use mathlib.Core.List.{List}
 use lib.Ieee.{Float}
 use Rattle.error.specs.declared.Refusal.{Refusal}
-use Rattle.polygon.specs.declared.Outline.{Outline}
+use Rattle.outline.specs.declared.Outline.{Outline}
 use Rattle.offset.specs.declared.Offset.{Offset}
 use Rattle.offset.specs.declared.OffsetWritten.{OffsetWritten}
 use Rattle.error.specs.Refusals.{granted}
-use Rattle.lent.specs.Writes.{write-ring, write-refusal}
+use Rattle.outline_lent.specs.Writes.{write-ring, write-refusal}
 use Rattle.offset.specs.Offsets.{offset}
 
 unfoldable pub write-offset : Offset → List Float → Refusal

@@ -1,4 +1,5 @@
--- polygon.rs, `Polygon::inset` and `outset`: 21, 13 and 14, the sweep, the pieces of its finished rings, and what is asked of the one that is left. Assumes nothing.
+-- polygon.rs, `Polygon::inset` and `outset`: 21, 13 and 14, the sweep, the pieces of its finished rings, and what is asked of the one that
+-- is left. Assumes nothing.
 use mathlib.Core.Bool.{Bool, true, false, cond, _&&_, not}
 use lib.Ieee.{Float, binary64, lt, le, eq, ofBits}
 use Prim.Native.Nat.{ℕ}
@@ -6,8 +7,8 @@ use mathlib.Core.List.{List}
 use Rattle.plane.specs.declared.PlanarPoint.{PlanarPoint}
 use Rattle.error.specs.declared.Refusal.{Refusal}
 use Rattle.error.specs.declared.Refusal.the-variants.{Granted, Splits, Collapses, Far, Negative, Shape}
-use Rattle.polygon.specs.declared.Outline.{Outline}
-use Rattle.polygon.specs.declared.NewOutline.{NewOutline}
+use Rattle.outline.specs.declared.Outline.{Outline}
+use Rattle.outline.specs.declared.NewOutline.{NewOutline}
 use Rattle.front.specs.declared.Edge.{Edge}
 use Rattle.front.specs.declared.Walk.{Walk}
 use Rattle.front.specs.declared.Sweep.{Sweep}
@@ -20,11 +21,11 @@ use Rattle.math.specs.Number
 use Rattle.math.specs.Number.{finite, zero-float}
 use Rattle.error.specs.Refusals.{granted}
 use Rattle.ring.specs.Ring.{vertex-at}
-use Rattle.measures.specs.Measures.{signed-area, extent}
-use Rattle.near.specs.Near.{nearest}
-use Rattle.contain.specs.Contains.{ring-contains}
-use Rattle.meet.specs.Meet.{rings-meet}
-use Rattle.polygon.specs.Outlines.{no-outline, stored-outline, outline-refused, offset-tolerance, proper}
+use Rattle.ring_measure.specs.Measures.{signed-area, extent}
+use Rattle.ring_near.specs.Near.{nearest}
+use Rattle.ring_contain.specs.Contains.{ring-contains}
+use Rattle.ring_cross.specs.Meet.{rings-meet}
+use Rattle.outline.specs.Outlines.{no-outline, stored-outline, outline-refused, offset-tolerance, proper}
 use Rattle.front.specs.Loading.{load-ring, loaded-nothing}
 use Rattle.front.specs.Sweeps.{offset-rings}
 use Rattle.front.specs.Finished.{for-each-ring}
@@ -64,7 +65,8 @@ pieces-refusal s = s .refusal
 
 unfoldable pub pieces : List Edge → PlanarPoint → Bool → Float → Float → Pieces
 pieces f origin outward d tolerance =
-    for-each-ring pieces-refusal (visit-piece outward d tolerance) f d origin (record { refusal = Granted; found = false; shape = no-outline })
+    for-each-ring pieces-refusal (visit-piece outward d tolerance) f d origin
+    (record { refusal = Granted; found = false; shape = no-outline })
 
 -- ---- the piece that is left keeps clear of the source
 
@@ -136,5 +138,6 @@ outset o d = offset o true d
 
 -- opens every definition above, for a proof that computes with all of them
 unfoldable pub open-offsets : Unit {0}
-unfolding check-distance pieces-refused expected with-piece visit-piece pieces-refusal pieces clear-of keeps-clear offset-clear offset-found offset-finished offset-swept offset-counted offset-plain sweep offset-from offset-by offset inset outset
+unfolding check-distance pieces-refused expected with-piece visit-piece pieces-refusal pieces clear-of keeps-clear offset-clear offset-found
+    offset-finished offset-swept offset-counted offset-plain sweep offset-from offset-by offset inset outset
 open-offsets = tt

@@ -5,14 +5,14 @@ use mathlib.Core.List.{List}
 use lib.Ieee.{Float, le}
 use Rattle.error.specs.declared.Refusal.{Refusal}
 use Rattle.error.specs.declared.Refusal.the-variants.{Splits}
-use Rattle.ringcheck.specs.declared.Checked.{Checked}
+use Rattle.ring_check.specs.declared.Checked.{Checked}
 use Rattle.front.specs.declared.Walk.{Walk}
 use Rattle.offset.specs.declared.Piece.{Piece}
 use Rattle.offset.specs.declared.Piece.the-variants.{Shrunk, Failed, Whole}
 use Rattle.error.specs.Refusals.{granted, degenerate, offset-failure}
 use Rattle.math.specs.Number.{abs, mul}
-use Rattle.measures.specs.Measures.{signed-area}
-use Rattle.ringcheck.specs.Checks.{check-ring}
+use Rattle.ring_measure.specs.Measures.{signed-area}
+use Rattle.ring_check.specs.Checks.{check-ring}
 
 -- questions 4 to 9 of a ring that an offset left, for a room; its number is its place among the finished rings
 unfoldable pub check-piece : ℕ → ℕ → List Float → ℕ → Checked

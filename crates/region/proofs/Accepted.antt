@@ -3,14 +3,16 @@ use Prim.Native.Nat.{ℕ, zero, suc, _+_, _≤_, _<_}
 use mathlib.Core.Path.{_≡_, refl, sym, _∙_}
 use mathlib.Core.Bool.{Bool, true, false, cond, not, _&&_, _||_, false≢true}
 use mathlib.Core.List.{List}
+use mathlib.Mathlib.Data.Bool.Basic.{and-elim-left, and-elim-right}
 use native.Mathlib.Omega.{arith}
 use borrow.Author.Tests.{ltb-true, not-true}
 use lib.Dec.{ltb, eqb}
 use lib.Ieee.{Float, le, eq}
+use Rattle.ring_check.proofs.Sound.{Passed}
 use Rattle.plane.specs.declared.PlanarPoint.{PlanarPoint}
 use Rattle.error.specs.declared.Refusal.{Refusal}
 use Rattle.error.specs.declared.Refusal.the-variants.{Granted, Splits, Collapses, Shape, ManyPieces}
-use Rattle.simple.specs.declared.Crossing.the-variants.{Simple}
+use Rattle.ring_cross.specs.declared.Crossing.the-variants.{Simple}
 use Rattle.front.specs.declared.Edge.{Edge}
 use Rattle.front.specs.declared.Walk.{Walk}
 use Rattle.front.specs.declared.Sweep.{Sweep}
@@ -25,22 +27,25 @@ use Rattle.math.specs.Number.{zero-float}
 use Rattle.error.specs.Refusals.{number, values, granted, region-failure}
 use Rattle.error.proofs.Laws.{granted-is}
 use Rattle.ring.specs.Ring.{vertex-at}
-use Rattle.simple.specs.Simple.{check-simple}
-use Rattle.meet.specs.Meet.{rings-meet}
-use Rattle.polygon.specs.Outlines.{stored-outline, offset-tolerance}
-use Rattle.front.proofs.Demand.Choice.{and-left, and-right}
+use Rattle.ring_cross.specs.Simple.{check-simple}
+use Rattle.ring_cross.specs.Meet.{rings-meet}
+use Rattle.outline.specs.Outlines.{stored-outline, offset-tolerance}
+use Rattle.outline.proofs.Good.{GoodRing, good-ring, good-proper}
+use Rattle.outline.proofs.Outlines.{outline-good}
 use Rattle.offset.specs.Clear.{is-inside, every-vertex}
 use Rattle.offset.specs.Rings.{offset-piece}
 use Rattle.offset.specs.Offsets.{check-distance}
-use Rattle.loops.proofs.Tests.{none-pass}
-use Rattle.offset.proofs.Choices.{either, both, all-pass}
+use Rattle.base.proofs.Tests.{none-pass, all-pass}
+use Rattle.base.proofs.Choices.{by-test}
+use Rattle.base.proofs.Choices.{both}
 use Rattle.offset.proofs.Visits.{visits-keep}
-use Rattle.offset.proofs.Passes.{Passed, PassedPiece, piece-sound}
-use Rattle.offset.proofs.Good.{GoodRing, good-ring, good-proper}
-use Rattle.offset.proofs.Accepted.{every-passes, none-meet, inside-is, outline-good, above-zero}
+use Rattle.offset.proofs.Passes.{PassedPiece, piece-sound}
+use Rattle.offset.proofs.Accepted.{every-passes, none-meet, inside-is, above-zero}
 use Rattle.region.specs.Regions.{no-region, ring-points, ring-count, with-outer, store-hole, region-contains, distance-to-boundary, region-extent}
 use Rattle.region.specs.Checks.{check-region, proper-region, region-refused}
-use Rattle.region.specs.Insets.{region-pieces-refused, is-outer, with-outer-piece, with-hole-piece, with-region-piece, visit-region-piece, region-pieces-refusal, region-pieces, clear-of-region, rings-clear-step, region-keeps-clear, crosses-ring-step, crosses-ring, crosses-step, crosses, inset-clear, inset-checked, inset-found, inset-finished, inset-swept, region-counted, region-plain, region-sweep, inset-from, inset-by, region-inset}
+use Rattle.region.specs.Insets.{region-pieces-refused, is-outer, with-outer-piece, with-hole-piece, with-region-piece, visit-region-piece, region-pieces-refusal, region-pieces, clear-of-region, rings-clear-step, region-keeps-clear}
+use Rattle.region.specs.Insets.{crosses-ring-step, crosses-ring, crosses-step, crosses, inset-clear, inset-checked, inset-found, inset-finished, inset-swept, region-counted, region-plain, region-sweep, inset-from, inset-by}
+use Rattle.region.specs.Insets.{region-inset}
 use Rattle.region.specs.Answers.{RegionKeptClear, InsetAccepted, InsetProper}
 use Rattle.region.proofs.Holes.{GoodHoles, good-of-holes, no-holes, outer-holes, store-holes, region-proper, good-holes-proper}
 
@@ -69,7 +74,7 @@ module _ (d : Float) (w : Walk) (s : RegionPieces) (h : GoodPieces s) where
   hole-good : (n : ℕ) (back : Bool) → Passed 32 (w .points) (w .count) n back → GoodPieces (with-hole-piece w s n back)
   unfolding with-hole-piece store-hole
   hole-good n back z =
-      either GoodPieces (ltb (s .shape .holes) 8)
+      by-test GoodPieces (ltb (s .shape .holes) 8)
       (λ l. record {
         outer = h .outer;
         few = omega (arith, ltb-true (s .shape .holes) 8 l);
@@ -82,7 +87,7 @@ module _ (d : Float) (w : Walk) (s : RegionPieces) (h : GoodPieces s) where
   with-good Shrunk z = h
   with-good (Failed u) z = refused-pieces u
   with-good (Whole n back) z =
-      either GoodPieces (is-outer w) (λ e. outer-good n back (rw e at z)) (λ e. hole-good n back (rw e at z))
+      by-test GoodPieces (is-outer w) (λ e. outer-good n back (rw e at z)) (λ e. hole-good n back (rw e at z))
 
 pieces-good : (f : List Edge) (origin : PlanarPoint) (d tolerance : Float) → GoodPieces (region-pieces f origin d tolerance)
 unfolding region-pieces visit-region-piece no-region
@@ -138,10 +143,10 @@ module _ (r : Region) (d : Float) where
       region = granted-is (check-region q) checked;
       side = λ k i l z.
           let p : PlanarPoint = vertex-at (ring-points q k) i in
-          inside-is (region-contains r p) (and-left (is-inside (region-contains r p)) (le least (distance-to-boundary r p)) (vertex-clear k i l z));
+          inside-is (region-contains r p) (and-elim-left (is-inside (region-contains r p)) (le least (distance-to-boundary r p)) (vertex-clear k i l z));
       gap = λ k i l z.
           let p : PlanarPoint = vertex-at (ring-points q k) i in
-          and-right (is-inside (region-contains r p)) (le least (distance-to-boundary r p)) (vertex-clear k i l z);
+          and-elim-right (is-inside (region-contains r p)) (le least (distance-to-boundary r p)) (vertex-clear k i l z);
       apart = λ k l i j m n. none-meet (ring-points q k) (ring-count q k) (ring-points r l) (ring-count r l) (rings-apart k l m n) i j;
     }
 
@@ -157,14 +162,14 @@ module _ (r : Region) (d : Float) where
       let g : GoodPieces p = pieces-good f (vertex-at (r .outer .points) 0) d tolerance in
       let a : Bool = region-keeps-clear least r q in
       let b : Bool = crosses r q in
-      either (AcceptedNew r d) (granted (p .refusal))
-      (λ h. either (AcceptedNew r d) (p .found)
-      (λ z. either (AcceptedNew r d) (granted (check-region q))
-      (λ c. either (AcceptedNew r d) (a && not b)
+      by-test (AcceptedNew r d) (granted (p .refusal))
+      (λ h. by-test (AcceptedNew r d) (p .found)
+      (λ z. by-test (AcceptedNew r d) (granted (check-region q))
+      (λ c. by-test (AcceptedNew r d) (a && not b)
       (λ e. record {
         accepted = record {
           proper = λ t. region-proper q (good-proper 128 (q .outer .points) (q .outer .count) (g .outer z)) (g .few) (good-holes-proper q (g .holes));
-          clear = λ t. kept-clear q (g .outer z) (g .few) (g .holes) c (and-left a (not b) e) (not-true b (and-right a (not b) e));
+          clear = λ t. kept-clear q (g .outer z) (g .few) (g .holes) c (and-elim-left a (not b) e) (not-true b (and-elim-right a (not b) e));
         };
       })
       (λ e. refused-accepted (Splits d) refl))
@@ -174,7 +179,7 @@ module _ (r : Region) (d : Float) where
 
   swept-accepted : (s : Sweep) → AcceptedNew r d (inset-swept r d s)
   unfolding inset-swept
-  swept-accepted s = either (AcceptedNew r d) (granted (s .refusal)) (λ h. finished-accepted (s .edges)) (λ h. refused-accepted (s .refusal) h)
+  swept-accepted s = by-test (AcceptedNew r d) (granted (s .refusal)) (λ h. finished-accepted (s .edges)) (λ h. refused-accepted (s .refusal) h)
 
 -- ---- the answer
 
@@ -196,13 +201,13 @@ from-accepts r d s =
 by-accepts : (r : Region) (d : Float) (u : Refusal) → proper-region r ≡ true → AcceptedInset r d (inset-by r d u)
 unfolding inset-by region-plain
 by-accepts r d u p =
-    either (AcceptedInset r d) (granted u)
-    (λ g. either (AcceptedInset r d) (eq d zero-float) (λ z. record { proper = λ q. p; clear = λ q e. absurd (false≢true (sym e ∙ z)) }) (λ z. from-accepts r d (region-sweep r d)))
+    by-test (AcceptedInset r d) (granted u)
+    (λ g. by-test (AcceptedInset r d) (eq d zero-float) (λ z. record { proper = λ q. p; clear = λ q e. absurd (false≢true (sym e ∙ z)) }) (λ z. from-accepts r d (region-sweep r d)))
     (λ g. plain-accepted r d u g)
 
 inset-accepts : (r : Region) (d : Float) → AcceptedInset r d (region-inset r d)
 unfolding region-inset granted number values
-inset-accepts r d = either (AcceptedInset r d) (proper-region r) (λ p. by-accepts r d (check-distance d) p) (λ p. plain-accepted r d Shape refl)
+inset-accepts r d = by-test (AcceptedInset r d) (proper-region r) (λ p. by-accepts r d (check-distance d) p) (λ p. plain-accepted r d Shape refl)
 
 pub inset-proper : InsetProper
 inset-proper r d q = inset-accepts r d .proper q

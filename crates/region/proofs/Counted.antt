@@ -3,6 +3,7 @@ use Prim.Native.Nat.{suc}
 use mathlib.Core.Path.{_≡_, refl, sym, ap, subst}
 use mathlib.Core.Bool.{true, false}
 use lib.Ieee.{Float, eq}
+use Rattle.base.proofs.Choices.{by-test}
 use Rattle.error.specs.declared.Refusal.{Refusal}
 use Rattle.error.specs.declared.Refusal.the-variants.{Granted, Shape}
 use Rattle.front.specs.declared.Loaded.{Loaded}
@@ -15,8 +16,7 @@ use Rattle.error.proofs.Laws.{granted-is}
 use Rattle.front.specs.Demand.{givens, run, events, tally}
 use Rattle.offset.specs.Offsets.{check-distance}
 use Rattle.offset.specs.Answers.{NoEvent}
-use Rattle.offset.proofs.Choices.{either}
-use Rattle.offset.proofs.Answers.{distance-finite, Own}
+use Rattle.offset.proofs.DemandAnswered.{distance-finite, Own}
 use Rattle.offset.proofs.Counted.{write-own, handed-on}
 use Rattle.region.specs.Regions.{no-region}
 use Rattle.region.specs.Checks.{proper-region}
@@ -25,7 +25,7 @@ use Rattle.region.specs.Queries.{needed, no-rings, rings-told, write-ins
 use Rattle.region.specs.Demand.{edges-of, region-load}
 use Rattle.region.specs.Answers.{InsetCounted, InsetWriteAccounts}
 use Rattle.region.proofs.Demand.{region-demand}
-use Rattle.region.proofs.Answers.{inset-demand, inset-before}
+use Rattle.region.proofs.DemandAnswered.{inset-demand, inset-before}
 
 module _ (r : Region) (d : Float) where
   abbrev a : RegionOffset
@@ -59,7 +59,7 @@ inset-counts r d = record {
 -- the refusal that is told is that of the write
 told-same : (r : Region) (u : Refusal) → (rings-told r u) .refusal ≡ u
 unfolding rings-told no-rings
-told-same r u = either (λ (w : RegionWritten). w .refusal ≡ u) (granted u) (λ h. sym (granted-is u h)) (λ h. refl)
+told-same r u = by-test (λ (w : RegionWritten). w .refusal ≡ u) (granted u) (λ h. sym (granted-is u h)) (λ h. refl)
 
 pub inset-write-accounts : InsetWriteAccounts
 unfolding inset-write inset-told write-inset

@@ -2,6 +2,7 @@
 use mathlib.Core.Path.{_≡_, refl}
 use mathlib.Core.Logic.{_≢_}
 use mathlib.Core.Bool.{true, false, _&&_}
+use mathlib.Mathlib.Data.Bool.Basic.{and-elim-left, and-elim-right}
 use Prim.Native.Nat.{ℕ, zero, suc, _*_, _≤_, _<_}
 use native.Mathlib.Omega.{arith}
 use lib.Dec.{leb}
@@ -10,15 +11,14 @@ use Rattle.plane.specs.declared.PlanarPoint.{PlanarPoint}
 use Rattle.region.specs.declared.Region.{Region}
 use Rattle.error.specs.Refusals.{number}
 use Rattle.ring.specs.Ring.{vertex-at}
-use Rattle.loops.specs.Loop.{rounds}
-use Rattle.polygon.specs.Outlines.{proper}
+use Rattle.base.specs.Loop.{rounds}
+use Rattle.base.proofs.Tests.{all-pass}
+use Rattle.outline.specs.Outlines.{proper}
 use Rattle.front.specs.Loading.{load-ring, loaded-nothing, Loads, outer, hole}
 use Rattle.region.specs.Regions.{hole-points, hole-count}
 use Rattle.region.specs.Checks.{proper-step, proper-region}
 use Rattle.region.specs.Insets.{load-hole-step, load-region, region-sweep}
 use Rattle.region.specs.Demand.{edges-of, RegionSweep, RegionDemand}
-use Rattle.offset.proofs.Choices.{all-pass}
-use Rattle.front.proofs.Demand.Choice.{and-left, and-right}
 use Rattle.front.proofs.Demand.Whole.{front-demand, loads-enough, loads-other}
 
 hole-proper : (r : Region) (n : ℕ) → rounds (proper-step r) n true ≡ true → (k : ℕ) → k < n → proper 32 (hole-points r k) (hole-count r k) ≡ true
@@ -28,13 +28,13 @@ hole-proper r n q k l = all-pass (proper-step r) (λ i. proper 32 (hole-points r
 module _ (r : Region) (d : Float) (q : proper-region r ≡ true) where
   outer-proper : proper 128 (r .outer .points) (r .outer .count) ≡ true
   unfolding proper-region
-  outer-proper = and-left (proper 128 (r .outer .points) (r .outer .count)) (leb (r .holes) 8 && rounds (proper-step r) (r .holes) true) q
+  outer-proper = and-elim-left (proper 128 (r .outer .points) (r .outer .count)) (leb (r .holes) 8 && rounds (proper-step r) (r .holes) true) q
 
   holes-proper : (k : ℕ) → k < r .holes → proper 32 (hole-points r k) (hole-count r k) ≡ true
   unfolding proper-region
   holes-proper = hole-proper r (r .holes)
-      (and-right (leb (r .holes) 8) (rounds (proper-step r) (r .holes) true)
-      (and-right (proper 128 (r .outer .points) (r .outer .count)) (leb (r .holes) 8 && rounds (proper-step r) (r .holes) true) q))
+      (and-elim-right (leb (r .holes) 8) (rounds (proper-step r) (r .holes) true)
+      (and-elim-right (proper 128 (r .outer .points) (r .outer .count)) (leb (r .holes) 8 && rounds (proper-step r) (r .holes) true) q))
 
   abbrev origin : PlanarPoint
   origin = vertex-at (r .outer .points) 0

@@ -9,16 +9,16 @@ use lib.Dec.{ltb}
 use lib.ListN.{getD, drop, set, length, length-set, length-replicate}
 use lib.Seq.{getD-drop, getD-set-same, getD-set-other}
 use lib.Ieee.{Float, nan}
-use Rattle.polygon.specs.declared.Outline.{Outline}
+use Rattle.base.proofs.Choices.{by-cases, by-test}
+use Rattle.base.proofs.Tests.{pass-all}
+use Rattle.outline.specs.declared.Outline.{Outline}
 use Rattle.region.specs.declared.Region.{Region}
 use Rattle.math.specs.Number.{zero-float}
 use Rattle.ring.specs.Ring.{vertex-at, stored-at}
-use Rattle.polygon.specs.Outlines.{proper}
-use Rattle.front.proofs.Demand.Occ.{by-cases}
+use Rattle.outline.specs.Outlines.{proper}
+use Rattle.outline.proofs.Good.{GoodRing, good-same, good-proper, proper-same}
 use Rattle.front.proofs.Demand.Shapes.{proper-is}
-use Rattle.offset.proofs.Choices.{either, pass-all}
-use Rattle.offset.proofs.Storing.{stored-length, stored-new, stored-old}
-use Rattle.offset.proofs.Good.{GoodRing, good-same, good-proper, proper-same}
+use Rattle.ring.proofs.Storing.{stored-length, stored-new, stored-old}
 use Rattle.region.specs.Regions.{no-region, hole-points, hole-count, with-outer, store-hole, count-hole, with-hole}
 use Rattle.region.specs.Checks.{proper-step, proper-region}
 
@@ -102,7 +102,7 @@ module _ (P : List Float → ℕ → Type 0) where
     pub with-holes : GoodHoles P (with-hole q ps n back)
     unfolding with-hole
     with-holes =
-        either (GoodHoles P) (ltb (q .holes) 8) (λ l. store-holes (ltb-true (q .holes) 8 l)) (λ l. count-holes q (ltb-false (q .holes) 8 l) h)
+        by-test (GoodHoles P) (ltb (q .holes) 8) (λ l. store-holes (ltb-true (q .holes) 8 l)) (λ l. count-holes q (ltb-false (q .holes) 8 l) h)
 
 -- 21 of a region whose outer ring and holes pass it
 pub region-proper : (q : Region) → proper 128 (q .outer .points) (q .outer .count) ≡ true → q .holes ≤ 8 → GoodHoles ProperHole q → proper-region q ≡ true

@@ -4,8 +4,8 @@ use native.Mathlib.Omega.{arith}
 use mathlib.Core.Path.{refl}
 use Rattle.plane.specs.declared.PlanarPoint.{PlanarPoint}
 use Rattle.plane.specs.Points.{distance-to}
-use Rattle.near.specs.Near.{nearest}
-use Rattle.near.proofs.Least.{start-not-below, none-below}
+use Rattle.ring_near.specs.Near.{nearest}
+use Rattle.ring_near.proofs.Least.{start-not-below, none-below}
 use Rattle.region.specs.declared.Region.{Region}
 use Rattle.region.specs.Regions.{ring-points, ring-count, hole-points, hole-count, closer, closest-step, closest-boundary-point, distance-to-boundary}
 use Rattle.region.specs.Least.{BoundaryLeast}

@@ -9,19 +9,20 @@ use lib.Ieee.{Float, nan}
 use Rattle.error.specs.declared.Refusal.{Refusal}
 use Rattle.error.specs.Refusals.{granted}
 use Rattle.error.proofs.Laws.{granted-is}
-use Rattle.loops.specs.Loop.{rounds}
-use Rattle.loops.proofs.Laws.{rounds-keep}
-use Rattle.lent.specs.Writes.{write-ring, write-refusal}
-use Rattle.front.proofs.Demand.Occ.{by-cases}
-use Rattle.offset.proofs.Choices.{either, sums-to}
-use Rattle.offset.proofs.Lent.{Writing, ring-writing, Fits, refusal-fits, ask-fits}
+use Rattle.base.specs.Loop.{rounds}
+use Rattle.base.proofs.Laws.{rounds-keep}
+use Rattle.base.proofs.Choices.{by-cases, by-test}
+use Rattle.base.proofs.Sums.{sums-to}
+use Rattle.outline_lent.specs.Writes.{write-ring, write-refusal}
+use Rattle.outline_lent.proofs.Written.{Writing, ring-writing, Fits, refusal-fits, ask-fits}
 use Rattle.region.specs.declared.Region.{Region}
 use Rattle.region.specs.declared.RegionOffset.{RegionOffset}
 use Rattle.region.specs.declared.RegionWritten.{RegionWritten}
 use Rattle.region.specs.Regions.{ring-points, ring-count}
 use Rattle.region.specs.Checks.{proper-region}
 use Rattle.region.specs.Insets.{region-inset}
-use Rattle.region.specs.Queries.{ask-region, before-step, before, needed, write-rings-step, write-rings, no-rings, rings-told, write-region, region-write, written-region, write-inset, inset-told, inset-write, inset-over, written-inset}
+use Rattle.region.specs.Queries.{ask-region, before-step, before, needed, write-rings-step, write-rings, no-rings, rings-told, write-region, region-write, written-region, write-inset, inset-told, inset-write, inset-over}
+use Rattle.region.specs.Queries.{written-inset}
 use Rattle.region.specs.Answers.{RingsWrote, RegionLent, InsetLent}
 
 module _ (r : Region) (out : List Float) where
@@ -73,7 +74,7 @@ module _ (r : Region) (out : List Float) where
   -- what is answered has the refusal of the write
   told-refusal : (u : Refusal) → (rings-told r u) .refusal ≡ u
   unfolding rings-told no-rings
-  told-refusal u = either (λ (w : RegionWritten). w .refusal ≡ u) (granted u) (λ h. sym (granted-is u h)) (λ h. refl)
+  told-refusal u = by-test (λ (w : RegionWritten). w .refusal ≡ u) (granted u) (λ h. sym (granted-is u h)) (λ h. refl)
 
   region-fits : Fits (needed r) out (write-region r out)
   unfolding write-region ask-region
@@ -83,7 +84,7 @@ module _ (r : Region) (out : List Float) where
   unfolding written-region
   written-rings =
       let u : Refusal = write-region r out in
-      either (RingsWrote u r out) (granted u) (λ g. rings-wrote u g (region-fits .fits g)) (λ g. rings-kept u g)
+      by-test (RingsWrote u r out) (granted u) (λ g. rings-wrote u g (region-fits .fits g)) (λ g. rings-kept u g)
 
 pub region-lent : RegionLent
 unfolding region-write
@@ -92,13 +93,13 @@ region-lent r out = subst (λ (u : Refusal). RingsWrote u r out (written-region 
 inset-fits : (a : RegionOffset) (out : List Float) → Fits (needed (a .shape)) out (write-inset a out)
 unfolding write-inset
 inset-fits a out =
-    either (Fits (needed (a .shape)) out) (granted (a .refusal)) (λ h. refusal-fits (needed (a .shape)) out) (λ h. record { fits = λ q. absurd (false≢true (sym h ∙ q)) })
+    by-test (Fits (needed (a .shape)) out) (granted (a .refusal)) (λ h. refusal-fits (needed (a .shape)) out) (λ h. record { fits = λ q. absurd (false≢true (sym h ∙ q)) })
 
 over-rings : (a : RegionOffset) (out : List Float) → RingsWrote (write-inset a out) (a .shape) out (inset-over a out)
 unfolding inset-over
 over-rings a out =
     let u : Refusal = write-inset a out in
-    either (RingsWrote u (a .shape) out) (granted u) (λ g. rings-wrote (a .shape) out u g (inset-fits a out .fits g)) (λ g. rings-kept (a .shape) out u g)
+    by-test (RingsWrote u (a .shape) out) (granted u) (λ g. rings-wrote (a .shape) out u g (inset-fits a out .fits g)) (λ g. rings-kept (a .shape) out u g)
 
 pub inset-lent : InsetLent
 unfolding inset-write inset-told written-inset

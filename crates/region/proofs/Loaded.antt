@@ -1,8 +1,9 @@
 -- A region from numbers or from outlines that is accepted passes 21; rings that are refused are not there. Assumes nothing.
 use Prim.Native.Nat.{ℕ, _+_, _-_, _*_, _%_, _≤_, _<_}
 use mathlib.Core.Path.{_≡_, refl, sym, _∙_, subst}
-use mathlib.Core.Bool.{Bool, true, false, _&&_, false≢true, true≢false}
+use mathlib.Core.Bool.{Bool, true, false, false≢true, true≢false}
 use mathlib.Core.List.{List}
+use mathlib.Mathlib.Data.Bool.Basic.{and-elim-left, and-elim-right}
 use native.Mathlib.Omega.{arith}
 use borrow.Author.Tests.{leb-true}
 use lib.Dec.{leb, ltb, eqb}
@@ -10,24 +11,26 @@ use lib.ListN.{getD, drop, length}
 use lib.Ieee.{Float}
 use Rattle.error.specs.declared.Refusal.{Refusal}
 use Rattle.error.specs.declared.Refusal.the-variants.{Lengths, Odd, Shape}
-use Rattle.ringcheck.specs.declared.Checked.{Checked}
-use Rattle.polygon.specs.declared.Outline.{Outline}
+use Rattle.ring_check.specs.declared.Checked.{Checked}
+use Rattle.outline.specs.declared.Outline.{Outline}
 use Rattle.region.specs.declared.Region.{Region}
 use Rattle.region.specs.declared.RegionLoad.{RegionLoad}
 use Rattle.error.specs.Refusals.{number, values, granted}
-use Rattle.loops.specs.Loop.{rounds}
-use Rattle.loops.proofs.Laws.{rounds-keep}
+use Rattle.base.specs.Loop.{rounds}
+use Rattle.base.proofs.Laws.{rounds-keep}
+use Rattle.base.proofs.Choices.{by-test}
+use Rattle.base.proofs.Choices.{both}
+use Rattle.base.proofs.Tests.{all-pass}
 use Rattle.ring.specs.Ring.{vertex-at, source, stored-at}
-use Rattle.ringcheck.specs.Checks.{check-ring}
-use Rattle.polygon.specs.Outlines.{proper, stored-outline, check-finite}
+use Rattle.ring_check.specs.Checks.{check-ring}
+use Rattle.ring_check.proofs.Sound.{Passed, check-sound}
+use Rattle.outline.specs.Outlines.{proper, stored-outline, check-finite}
+use Rattle.outline.proofs.Good.{good-ring, good-proper, proper-same}
+use Rattle.outline.proofs.Outlines.{outline-good}
 use Rattle.front.proofs.Demand.Shapes.{proper-is}
-use Rattle.front.proofs.Demand.Choice.{and-left, and-right}
-use Rattle.offset.proofs.Choices.{either, both, all-pass}
-use Rattle.offset.proofs.Passes.{Passed, check-sound}
-use Rattle.offset.proofs.Good.{good-ring, good-proper, proper-same}
-use Rattle.offset.proofs.Accepted.{outline-good}
 use Rattle.region.specs.Regions.{no-region, with-outer, store-hole, count-hole, with-hole}
-use Rattle.region.specs.Checks.{check-region, region-refused, region-if, rings-refused, hole-loaded, hole-load-step, outer-loaded, load-rings, region-loaded, total, region-finite, region, proper-region, given-hole, proper-given-step, proper-given, given-step, given-rings, region-given, without-holes}
+use Rattle.region.specs.Checks.{check-region, region-refused, region-if, rings-refused, hole-loaded, hole-load-step, outer-loaded, load-rings, region-loaded, lengths-fit, region-finite, region, proper-region, given-hole}
+use Rattle.region.specs.Checks.{proper-given-step, proper-given, given-step, given-rings, region-given, without-holes}
 use Rattle.region.specs.Answers.{LoadEmpty, ProperNewRegion, RegionProper}
 use Rattle.region.proofs.Holes.{GoodHoles, ProperHole, proper-of-holes, no-holes, outer-holes, with-holes, region-proper}
 
@@ -38,7 +41,7 @@ record Few (r : Region) (u : Refusal) : Type 0 where
 
 checked-few : (r : Region) → Few r (check-region r)
 unfolding check-region granted number values
-checked-few r = either (Few r) (leb (r .holes) 8) (λ h. record { few = λ q. leb-true (r .holes) 8 h }) (λ h. record { few = λ q. absurd (false≢true q) })
+checked-few r = by-test (Few r) (leb (r .holes) 8) (λ h. record { few = λ q. leb-true (r .holes) 8 h }) (λ h. record { few = λ q. absurd (false≢true q) })
 
 refused-proper : (u : Refusal) → granted u ≡ false → ProperNewRegion (region-refused u)
 unfolding region-refused
@@ -46,7 +49,7 @@ refused-proper u h = record { proper = λ q. absurd (false≢true (sym h ∙ q))
 
 if-proper : (r : Region) → (r .holes ≤ 8 → proper-region r ≡ true) → ProperNewRegion (region-if r (check-region r))
 unfolding region-if
-if-proper r h = either ProperNewRegion (granted (check-region r)) (λ g. record { proper = λ q. h (checked-few r .few g) }) (λ g. refused-proper (check-region r) g)
+if-proper r h = by-test ProperNewRegion (granted (check-region r)) (λ g. record { proper = λ q. h (checked-few r .few g) }) (λ g. refused-proper (check-region r) g)
 
 -- ---- the outer ring and the first eight holes pass 21
 
@@ -85,7 +88,7 @@ module _ (lengths : List ℕ) (ps : List Float) where
   outer-loading =
       let n : ℕ = getD lengths 0 0 in
       let c : Checked = check-ring 128 0 ps n in
-      either Loading (granted (c .refusal))
+      by-test Loading (granted (c .refusal))
       (λ h. record {
         sound = λ q. alone-sound (stored-outline ps (c .count) (c .back))
             (good-proper 128 ((stored-outline ps (c .count) (c .back)) .points) (c .count) (outline-good ps n (c .count) (c .back) (check-sound 128 0 ps n h)));
@@ -103,7 +106,7 @@ module _ (lengths : List ℕ) (ps : List Float) where
     unfolding hole-loaded rings-refused
     hole-loading =
         let c : Checked = check-ring 32 (k + 1) qs n in
-        either Loading (granted (c .refusal))
+        by-test Loading (granted (c .refusal))
         (λ e. record {
           sound = λ q.
               let p : Passed 32 qs n (c .count) (c .back) = check-sound 32 (k + 1) qs n e in
@@ -116,7 +119,7 @@ module _ (lengths : List ℕ) (ps : List Float) where
   step-loading : (k : ℕ) (s : RegionLoad) → Loading s → Loading (hole-load-step lengths ps k s)
   unfolding hole-load-step
   step-loading k s h =
-      either Loading (granted (s .refusal)) (λ g. hole-loading k s g h) (λ g. record { sound = λ q. absurd (false≢true (sym g ∙ q)) })
+      by-test Loading (granted (s .refusal)) (λ g. hole-loading k s g h) (λ g. record { sound = λ q. absurd (false≢true (sym g ∙ q)) })
 
   rings-sound : granted ((load-rings lengths ps) .refusal) ≡ true → Sound ((load-rings lengths ps) .shape)
   unfolding load-rings
@@ -130,7 +133,7 @@ module _ (lengths : List ℕ) (ps : List Float) where
 
   hole-emptied : (s : RegionLoad) (qs : List Float) (n : ℕ) (c : Checked) → Emptied (hole-loaded s qs n c)
   unfolding hole-loaded rings-refused granted number values
-  hole-emptied s qs n c = either Emptied (granted (c .refusal)) (λ e. record { empty = λ q. absurd (true≢false q) }) (λ e. record { empty = λ q. refl })
+  hole-emptied s qs n c = by-test Emptied (granted (c .refusal)) (λ e. record { empty = λ q. absurd (true≢false q) }) (λ e. record { empty = λ q. refl })
 
   pub load-empty : granted ((load-rings lengths ps) .refusal) ≡ false → (load-rings lengths ps) .shape ≡ no-region
   unfolding load-rings outer-loaded hole-load-step granted number values
@@ -138,8 +141,8 @@ module _ (lengths : List ℕ) (ps : List Float) where
       let n : ℕ = getD lengths 0 0 in
       let c : Checked = check-ring 128 0 ps n in
       rounds-keep (hole-load-step lengths ps) (λ k s. Emptied s) (outer-loaded ps n c)
-      (either Emptied (granted (c .refusal)) (λ e. record { empty = λ q. absurd (true≢false q) }) (λ e. record { empty = λ q. refl }))
-      (λ k s h. either Emptied (granted (s .refusal))
+      (by-test Emptied (granted (c .refusal)) (λ e. record { empty = λ q. absurd (true≢false q) }) (λ e. record { empty = λ q. refl }))
+      (λ k s h. by-test Emptied (granted (s .refusal))
       (λ g. hole-emptied s (drop (2 * s .start) ps) (getD lengths (k + 1) 0) (check-ring 32 (k + 1) (drop (2 * s .start) ps) (getD lengths (k + 1) 0)))
       (λ g. h))
       (length lengths - 1) .empty q
@@ -151,7 +154,7 @@ rings-proper : (lengths : List ℕ) (ps : List Float) → ProperNewRegion (regio
 unfolding region-loaded
 rings-proper lengths ps =
     let s : RegionLoad = load-rings lengths ps in
-    either ProperNewRegion (granted (s .refusal))
+    by-test ProperNewRegion (granted (s .refusal))
     (λ g. if-proper (s .shape) (sound-proper (s .shape) (rings-sound lengths ps g)))
     (λ g. refused-proper (s .refusal) g)
 
@@ -159,8 +162,8 @@ loaded-proper : (lengths : List ℕ) (ps : List Float) → ProperNewRegion (regi
 unfolding region region-finite granted number values
 loaded-proper lengths ps =
     both ProperNewRegion (eqb (length ps % 2) 0)
-    (either ProperNewRegion (granted (check-finite ps))
-    (λ f. both ProperNewRegion (ltb 0 (length lengths) && eqb (2 * total lengths) (length ps)) (rings-proper lengths ps) (refused-proper Lengths refl))
+    (by-test ProperNewRegion (granted (check-finite ps))
+    (λ f. both ProperNewRegion (lengths-fit lengths ps) (rings-proper lengths ps) (refused-proper Lengths refl))
     (λ f. refused-proper (check-finite ps) f))
     (refused-proper Odd refl)
 
@@ -171,8 +174,8 @@ unfolding proper-given given-rings proper-given-step given-step stored-at source
 given-sound o hs q =
     let a : Bool = proper 128 (o .points) (o .count) in
     let b : Bool = rounds (proper-given-step hs) (length hs) true in
-    rounds-keep (given-step hs) (λ k r. k ≤ length hs → Sound r) (with-outer no-region o) (λ l. alone-sound o (and-left a b q))
-    (λ k r h l. given-one k r (all-pass (proper-given-step hs) (λ i. proper 32 ((given-hole hs i) .points) ((given-hole hs i) .count)) (λ i s. refl) (length hs) (and-right a b q) k l) (h (omega arith)))
+    rounds-keep (given-step hs) (λ k r. k ≤ length hs → Sound r) (with-outer no-region o) (λ l. alone-sound o (and-elim-left a b q))
+    (λ k r h l. given-one k r (all-pass (proper-given-step hs) (λ i. proper 32 ((given-hole hs i) .points) ((given-hole hs i) .count)) (λ i s. refl) (length hs) (and-elim-right a b q) k l) (h (omega arith)))
     (length hs) (omega arith)
   where
     given-one : (k : ℕ) (r : Region) → proper 32 ((given-hole hs k) .points) ((given-hole hs k) .count) ≡ true → Sound r → Sound (given-step hs k r)
@@ -183,12 +186,12 @@ given-sound o hs q =
 given-proper : (o : Outline) (hs : List Outline) → ProperNewRegion (region-given o hs)
 unfolding region-given granted number values
 given-proper o hs =
-    either ProperNewRegion (proper-given o hs) (λ q. if-proper (given-rings o hs) (sound-proper (given-rings o hs) (given-sound o hs q))) (λ q. refused-proper Shape refl)
+    by-test ProperNewRegion (proper-given o hs) (λ q. if-proper (given-rings o hs) (sound-proper (given-rings o hs) (given-sound o hs q))) (λ q. refused-proper Shape refl)
 
 alone-proper : (o : Outline) → ProperNewRegion (without-holes o)
 unfolding without-holes with-outer no-region granted number values
 alone-proper o =
-    either ProperNewRegion (proper 128 (o .points) (o .count)) (λ q. record { proper = λ t. sound-proper (with-outer no-region o) (alone-sound o q) (omega arith) }) (λ q. refused-proper Shape refl)
+    by-test ProperNewRegion (proper 128 (o .points) (o .count)) (λ q. record { proper = λ t. sound-proper (with-outer no-region o) (alone-sound o q) (omega arith) }) (λ q. refused-proper Shape refl)
 
 pub region-again : RegionProper
 region-again = record { loaded = loaded-proper; rings = rings-proper; given = given-proper; alone = alone-proper }

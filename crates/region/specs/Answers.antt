@@ -1,6 +1,7 @@
--- What holds of the answers about a region, whatever the shape and the distance, finite or not: demand 3 of what is handed back, the empty shape beside a refusal,
--- the counts before loading, what an accepted inset has passed, what passes 21, and lent output. Proved in `proofs/Answers.antt`, `proofs/Accepted.antt`,
--- `proofs/Loaded.antt`, `proofs/Lent.antt` and `proofs/Counted.antt`. Assumes nothing.
+-- What holds of the answers about a region, whatever the shape and the distance, finite or not: demand 3 of what is handed back, the empty
+-- shape beside a refusal, the counts before loading, what an accepted inset has passed, what passes 21, and lent output. Proved in
+-- `proofs/DemandAnswered.antt`, `proofs/Accepted.antt`, `proofs/Loaded.antt`, `proofs/Lent.antt` and `proofs/Counted.antt`. Assumes
+-- nothing.
 use Prim.Native.Nat.{ℕ, suc, _+_, _*_, _≤_, _<_}
 use mathlib.Core.Path.{_≡_}
 use mathlib.Core.Bool.{true, false}
@@ -10,8 +11,8 @@ use lib.Ieee.{Float, nan, lt, le, eq}
 use Rattle.plane.specs.declared.Containment.the-variants.{Inside}
 use Rattle.error.specs.declared.Refusal.{Refusal}
 use Rattle.error.specs.declared.Refusal.the-variants.{Granted, Shape}
-use Rattle.simple.specs.declared.Crossing.the-variants.{Simple}
-use Rattle.polygon.specs.declared.Outline.{Outline}
+use Rattle.ring_cross.specs.declared.Crossing.the-variants.{Simple}
+use Rattle.outline.specs.declared.Outline.{Outline}
 use Rattle.region.specs.declared.Region.{Region}
 use Rattle.region.specs.declared.NewRegion.{NewRegion}
 use Rattle.math.specs.Number
@@ -19,8 +20,8 @@ use Rattle.math.specs.Number.{zero-float, one, add, mul}
 use Rattle.error.specs.Refusals.{granted}
 use Rattle.segment.specs.Segments.{segments-meet}
 use Rattle.ring.specs.Ring.{vertex-at, edge-end}
-use Rattle.simple.specs.Simple.{check-simple}
-use Rattle.polygon.specs.Outlines.{relative-tolerance}
+use Rattle.ring_cross.specs.Simple.{check-simple}
+use Rattle.outline.specs.Outlines.{relative-tolerance}
 use Rattle.offset.specs.Offsets.{check-distance}
 use Rattle.offset.specs.Answers.{AnswerDemand, ShapeCounted, ShapeAccounts, EmptyOutline}
 use Rattle.region.specs.Regions.{no-region, ring-points, ring-count, region-contains, distance-to-boundary, region-extent}
@@ -34,7 +35,8 @@ use Rattle.region.specs.Demand.{edges-of, region-load}
 abbrev pub InsetDemand : Type 0
 InsetDemand =
     (r : Region) (d : Float) → proper-region r ≡ true →
-    AnswerDemand (edges-of r (r .holes)) (suc (r .holes)) ((region-inset r d) .refusal) ((region-inset r d) .collapses) ((region-inset r d) .divides) ((region-inset r d) .joins)
+    AnswerDemand (edges-of r (r .holes)) (suc (r .holes)) ((region-inset r d) .refusal) ((region-inset r d) .collapses)
+    ((region-inset r d) .divides) ((region-inset r d) .joins)
 
 -- the counts handed back are those of the front's whole list of events
 abbrev pub InsetCounted : Type 0
@@ -71,7 +73,8 @@ pub record RegionEmpty : Type 0 where
 -- of rings that are loaded: 4 to 9 alone, of any numbers and any lengths
 abbrev pub LoadEmpty : Type 0
 LoadEmpty =
-    (lengths : List ℕ) (ps : List Float) → granted ((load-rings lengths ps) .refusal) ≡ false → (load-rings lengths ps) .shape ≡ no-region
+    (lengths : List ℕ) (ps : List Float) → granted ((load-rings lengths ps) .refusal) ≡ false →
+    (load-rings lengths ps) .shape ≡ no-region
 
 abbrev pub InsetEmpty : Type 0
 InsetEmpty = (r : Region) (d : Float) → granted ((region-inset r d) .refusal) ≡ false → EmptyRegion ((region-inset r d) .shape)
@@ -82,7 +85,8 @@ pub record InsetBeforeLoading (r : Region) (d : Float) : Type 0 where
   -- 21
   pub improper : proper-region r ≡ false → region-inset r d ≡ region-plain Shape no-region
   -- 13 and 14
-  pub refused : proper-region r ≡ true → granted (check-distance d) ≡ false → region-inset r d ≡ region-plain (check-distance d) no-region
+  pub refused : proper-region r ≡ true → granted (check-distance d) ≡ false →
+      region-inset r d ≡ region-plain (check-distance d) no-region
   -- 0 and −0: the source itself
   pub unmoved : proper-region r ≡ true → eq d zero-float ≡ true → region-inset r d ≡ region-plain Granted r
   -- 15 and 16 while loading
@@ -102,19 +106,23 @@ pub record RegionKeptClear (r : Region) (d : Float) (q : Region) : Type 0 where
   pub side : (k i : ℕ) → k ≤ q .holes → i < ring-count q k → region-contains r (vertex-at (ring-points q k) i) ≡ Inside
   -- its gap is at least distance − 1e-9 × (1 + distance + extent)
   pub gap : (k i : ℕ) → k ≤ q .holes → i < ring-count q k →
-      le (Number.sub d (mul relative-tolerance (add (add one d) (region-extent r)))) (distance-to-boundary r (vertex-at (ring-points q k) i)) ≡ true
+      le (Number.sub d (mul relative-tolerance (add (add one d) (region-extent r))))
+      (distance-to-boundary r (vertex-at (ring-points q k) i)) ≡ true
   -- no edge of a ring k meets an edge of a ring l of the source
   pub apart : (k l i j : ℕ) → k ≤ q .holes → l ≤ r .holes → i < ring-count q k → j < ring-count r l →
-      segments-meet (vertex-at (ring-points q k) i) (edge-end (ring-points q k) (ring-count q k) i) (vertex-at (ring-points r l) j) (edge-end (ring-points r l) (ring-count r l) j) ≡ false
+      segments-meet (vertex-at (ring-points q k) i) (edge-end (ring-points q k) (ring-count q k) i) (vertex-at (ring-points r l) j)
+      (edge-end (ring-points r l) (ring-count r l) j) ≡ false
 
 abbrev pub InsetAccepted : Type 0
 InsetAccepted =
-    (r : Region) (d : Float) → granted ((region-inset r d) .refusal) ≡ true → lt zero-float d ≡ true → RegionKeptClear r d ((region-inset r d) .shape)
+    (r : Region) (d : Float) → granted ((region-inset r d) .refusal) ≡ true → lt zero-float d ≡ true →
+    RegionKeptClear r d ((region-inset r d) .shape)
 
 -- ---- what is accepted passes 21 again
 
 abbrev pub InsetProper : Type 0
-InsetProper = (r : Region) (d : Float) → granted ((region-inset r d) .refusal) ≡ true → proper-region ((region-inset r d) .shape) ≡ true
+InsetProper = (r : Region) (d : Float) → granted ((region-inset r d) .refusal) ≡ true →
+    proper-region ((region-inset r d) .shape) ≡ true
 
 pub record ProperNewRegion (a : NewRegion) : Type 0 where
   pub proper : granted (a .refusal) ≡ true → proper-region (a .shape) ≡ true
@@ -132,11 +140,13 @@ pub record RegionProper : Type 0 where
 pub record RingsWrote (u : Refusal) (r : Region) (out now : List Float) : Type 0 where
   pub refused : granted u ≡ false → now ≡ out
   pub size : length now ≡ length out
-  pub numbers : granted u ≡ true → (k i : ℕ) → k ≤ r .holes → i < 2 * ring-count r k → getD now (2 * before r k + i) nan ≡ getD (ring-points r k) i nan
+  pub numbers : granted u ≡ true → (k i : ℕ) → k ≤ r .holes → i < 2 * ring-count r k →
+      getD now (2 * before r k + i) nan ≡ getD (ring-points r k) i nan
   pub rest : (i : ℕ) → needed r ≤ i → getD now i nan ≡ getD out i nan
 
 abbrev pub RegionLent : Type 0
 RegionLent = (r : Region) (out : List Float) → RingsWrote ((region-write r out) .refusal) r out (written-region r out)
 
 abbrev pub InsetLent : Type 0
-InsetLent = (r : Region) (d : Float) (out : List Float) → RingsWrote ((inset-write r d out) .refusal) ((region-inset r d) .shape) out (written-inset r d out)
+InsetLent = (r : Region) (d : Float) (out : List Float) →
+    RingsWrote ((inset-write r d out) .refusal) ((region-inset r d) .shape) out (written-inset r d out)

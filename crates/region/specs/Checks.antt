@@ -9,18 +9,18 @@ use Rattle.region.specs.declared.Region.{Region}
 use Rattle.region.specs.declared.RegionLoad.{RegionLoad}
 use Rattle.region.specs.declared.NewRegion.{NewRegion}
 use Rattle.plane.specs.declared.PlanarPoint.{PlanarPoint}
-use Rattle.polygon.specs.declared.Outline.{Outline}
+use Rattle.outline.specs.declared.Outline.{Outline}
 use Rattle.error.specs.declared.Refusal.{Refusal}
 use Rattle.error.specs.declared.Refusal.the-variants.{Granted, HoleOutside, HolesTouch, ManyHoles, Lengths, Odd, Shape}
-use Rattle.ringcheck.specs.declared.Checked.{Checked}
+use Rattle.ring_check.specs.declared.Checked.{Checked}
 use Rattle.ring.specs.Ring.{vertex-at}
-use Rattle.contain.specs.Contains.{ring-contains}
-use Rattle.loops.specs.Loop.{rounds}
-use Rattle.meet.specs.Meet.{rings-meet}
+use Rattle.ring_contain.specs.Contains.{ring-contains}
+use Rattle.base.specs.Loop.{rounds}
+use Rattle.ring_cross.specs.Meet.{rings-meet}
 use Rattle.error.specs.Refusals.{granted}
 use Rattle.region.specs.Regions.{hole-points, hole-count, no-region, with-hole, with-outer}
-use Rattle.ringcheck.specs.Checks.{check-ring}
-use Rattle.polygon.specs.Outlines.{no-outline, stored-outline, check-finite, proper}
+use Rattle.ring_check.specs.Checks.{check-ring}
+use Rattle.outline.specs.Outlines.{no-outline, stored-outline, check-finite, proper}
 use Rattle.offset.specs.Clear.{is-inside, is-outside, every-vertex}
 
 -- ---- questions 10 to 12 of a region whose rings have passed 4 to 9
@@ -73,7 +73,8 @@ region-refused r = record { refusal = r; shape = no-region }
 unfoldable pub region-if : Region → Refusal → NewRegion
 region-if r s = cond (granted s) (record { refusal = Granted; shape = r }) (region-refused s)
 
--- ---- a region from numbers: questions 1 to 12. Ring k has `getD lengths k` vertices, one ring after the other; every ring passes 4 to 9 before 10 is asked
+-- ---- a region from numbers: questions 1 to 12. Ring k has `getD lengths k` vertices, one ring after the other; every ring passes 4 to 9
+-- before 10 is asked
 
 -- the shape beside a refused ring is empty
 unfoldable pub rings-refused : RegionLoad → Refusal → RegionLoad
@@ -89,7 +90,8 @@ hole-loaded s ps n c =
 unfoldable pub hole-load-step : List ℕ → List Float → ℕ → RegionLoad → RegionLoad
 hole-load-step lengths ps k s =
     cond (granted (s .refusal))
-    (hole-loaded s (drop (2 * s .start) ps) (getD lengths (k + 1) 0) (check-ring 32 (k + 1) (drop (2 * s .start) ps) (getD lengths (k + 1) 0)))
+    (hole-loaded s (drop (2 * s .start) ps) (getD lengths (k + 1) 0)
+    (check-ring 32 (k + 1) (drop (2 * s .start) ps) (getD lengths (k + 1) 0)))
     s
 
 unfoldable pub outer-loaded : List Float → ℕ → Checked → RegionLoad
@@ -111,10 +113,14 @@ total-step lengths k s = s + getD lengths k 0
 unfoldable pub total : List ℕ → ℕ
 total lengths = rounds (total-step lengths) (length lengths) 0
 
+-- question 3: is there at least one ring, and do the ring lengths add up to the points? The sum is a natural number, so none is too large.
+unfoldable pub lengths-fit : List ℕ → List Float → Bool
+lengths-fit lengths ps = ltb 0 (length lengths) && eqb (2 * total lengths) (length ps)
+
 unfoldable pub region-finite : List ℕ → List Float → Refusal → NewRegion
 region-finite lengths ps r =
     cond (granted r)
-    (cond (ltb 0 (length lengths) && eqb (2 * total lengths) (length ps)) (region-loaded (load-rings lengths ps)) (region-refused Lengths))
+    (cond (lengths-fit lengths ps) (region-loaded (load-rings lengths ps)) (region-refused Lengths))
     (region-refused r)
 
 unfoldable pub region : List ℕ → List Float → NewRegion
@@ -149,9 +155,12 @@ unfoldable pub region-given : Outline → List Outline → NewRegion
 region-given o hs = cond (proper-given o hs) (region-if (given-rings o hs) (check-region (given-rings o hs))) (region-refused Shape)
 
 unfoldable pub without-holes : Outline → NewRegion
-without-holes o = cond (proper 128 (o .points) (o .count)) (record { refusal = Granted; shape = with-outer no-region o }) (region-refused Shape)
+without-holes o =
+    cond (proper 128 (o .points) (o .count)) (record { refusal = Granted; shape = with-outer no-region o }) (region-refused Shape)
 
 -- opens every definition above, for a proof that computes with all of them
 unfoldable pub open-checks : Unit {0}
-unfolding inside-of hole-free hole-step check-holes holes-touch second-step first-step check-apart then-apart check-region region-refused region-if rings-refused hole-loaded hole-load-step outer-loaded load-rings region-loaded total-step total region-finite region proper-step proper-region given-hole proper-given-step proper-given given-step given-rings region-given without-holes
+unfolding inside-of hole-free hole-step check-holes holes-touch second-step first-step check-apart then-apart check-region region-refused
+    region-if rings-refused hole-loaded hole-load-step outer-loaded load-rings region-loaded total-step total lengths-fit region-finite
+    region proper-step proper-region given-hole proper-given-step proper-given given-step given-rings region-given without-holes
 open-checks = tt

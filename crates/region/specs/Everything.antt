@@ -1,5 +1,5 @@
 -- Everything that a region and what stands below it are defined by, opened under one name: for a proof that computes. Assumes nothing.
-use Rattle.loops.specs.Loop.{open-loop}
+use Rattle.base.specs.Loop.{open-loop}
 use Rattle.math.specs.Number.{open-number}
 use Rattle.hypotenuse.specs.Hypot.{open-hypot}
 use Rattle.plane.specs.Plane.{open-plane}
@@ -8,16 +8,16 @@ use Rattle.areas.specs.Areas.{open-areas}
 use Rattle.segment.specs.Segments.{open-segments}
 use Rattle.error.specs.Refusals.{open-refusals}
 use Rattle.ring.specs.Ring.{open-ring}
-use Rattle.measures.specs.Measures.{open-measures}
-use Rattle.simple.specs.Simple.{open-simple}
-use Rattle.contain.specs.Contains.{open-contains}
-use Rattle.near.specs.Near.{open-near}
-use Rattle.meet.specs.Meet.{open-meet}
-use Rattle.ringcheck.specs.Checks.{open-checks}
+use Rattle.ring_measure.specs.Measures.{open-measures}
+use Rattle.ring_cross.specs.Simple.{open-simple}
+use Rattle.ring_contain.specs.Contains.{open-contains}
+use Rattle.ring_near.specs.Near.{open-near}
+use Rattle.ring_cross.specs.Meet.{open-meet}
+use Rattle.ring_check.specs.Checks.{open-checks}
 use Rattle.ring.specs.Store.{open-store}
-use Rattle.polygon.specs.Outlines.{open-outlines}
-use Rattle.lent.specs.Writes.{open-writes}
-use Rattle.queries.specs.Queries.{open-queries}
+use Rattle.outline.specs.Outlines.{open-outlines}
+use Rattle.outline_lent.specs.Writes.{open-writes}
+use Rattle.outline_ask.specs.Queries.{open-queries}
 use Rattle.front.specs.Lines.{open-lines}
 use Rattle.front.specs.Edges.{open-edges}
 use Rattle.front.specs.Tidying.{open-tidying}
@@ -35,5 +35,8 @@ use Rattle.region.specs.Insets.{open-insets}
 use Rattle.region.specs.Queries.{open-queries as open-region-queries}
 
 unfoldable pub open-everything : Unit {0}
-unfolding open-loop open-number open-hypot open-plane open-points open-areas open-segments open-refusals open-ring open-measures open-simple open-contains open-near open-meet open-checks open-store open-outlines open-writes open-queries open-lines open-edges open-tidying open-next-event open-splitting open-loading open-sweeps open-finished open-rings open-clear open-offsets open-regions open-region-checks open-insets open-region-queries
+unfolding open-loop open-number open-hypot open-plane open-points open-areas open-segments open-refusals open-ring open-measures open-simple
+    open-contains open-near open-meet open-checks open-store open-outlines open-writes open-queries open-lines open-edges open-tidying
+    open-next-event open-splitting open-loading open-sweeps open-finished open-rings open-clear open-offsets open-regions open-region-checks
+    open-insets open-region-queries
 open-everything = tt

@@ -1,4 +1,5 @@
--- holes.rs, `Region::inset`: 21, 13 and 14, the sweep of outer ring and holes together, the pieces of its finished rings, and what is asked of the region that is left.
+-- holes.rs, `Region::inset`: 21, 13 and 14, the sweep of outer ring and holes together, the pieces of its finished rings, and what is asked
+-- of the region that is left.
 -- Assumes nothing.
 use Prim.Native.Nat.{ℕ, _+_}
 use mathlib.Core.Bool.{Bool, true, false, cond, not, _&&_, _||_}
@@ -21,18 +22,19 @@ use Rattle.offset.specs.declared.Piece.the-variants.{Shrunk, Failed, Whole}
 use Rattle.math.specs.Number
 use Rattle.math.specs.Number.{zero-float}
 use Rattle.error.specs.Refusals.{region-failure, granted}
-use Rattle.loops.specs.Loop.{rounds}
+use Rattle.base.specs.Loop.{rounds}
 use Rattle.ring.specs.Ring.{vertex-at}
-use Rattle.measures.specs.Measures.{signed-area}
-use Rattle.meet.specs.Meet.{rings-meet}
-use Rattle.polygon.specs.Outlines.{stored-outline, offset-tolerance}
+use Rattle.ring_measure.specs.Measures.{signed-area}
+use Rattle.ring_cross.specs.Meet.{rings-meet}
+use Rattle.outline.specs.Outlines.{stored-outline, offset-tolerance}
 use Rattle.front.specs.Loading.{load-ring, loaded-nothing}
 use Rattle.front.specs.Sweeps.{offset-rings}
 use Rattle.front.specs.Finished.{for-each-ring}
 use Rattle.offset.specs.Clear.{is-inside, every-vertex}
 use Rattle.offset.specs.Rings.{offset-piece}
 use Rattle.offset.specs.Offsets.{check-distance}
-use Rattle.region.specs.Regions.{no-region, with-outer, store-hole, region-contains, distance-to-boundary, ring-points, ring-count, region-extent, hole-points, hole-count}
+use Rattle.region.specs.Regions.{no-region, with-outer, store-hole, region-contains, distance-to-boundary, ring-points, ring-count}
+use Rattle.region.specs.Regions.{region-extent, hole-points, hole-count}
 use Rattle.region.specs.Checks.{check-region, proper-region, region-refused}
 
 -- ---- the pieces of a region's inset: a ring whose area is above 0 is the outer one, any other is a hole
@@ -67,7 +69,8 @@ region-pieces-refusal s = s .refusal
 
 unfoldable pub region-pieces : List Edge → PlanarPoint → Float → Float → RegionPieces
 region-pieces f origin d tolerance =
-    for-each-ring region-pieces-refusal (visit-region-piece d tolerance) f d origin (record { refusal = Granted; found = false; shape = no-region })
+    for-each-ring region-pieces-refusal (visit-region-piece d tolerance) f d origin
+    (record { refusal = Granted; found = false; shape = no-region })
 
 -- ---- the region that is left keeps clear of the source, ring by ring
 
@@ -95,7 +98,8 @@ crosses r q = rounds (crosses-step r q) (q .holes + 1) false
 
 unfoldable pub inset-clear : Region → Float → Float → Region → NewRegion
 inset-clear r d tolerance q =
-    cond (region-keeps-clear (Number.sub d tolerance) r q && not (crosses r q)) (record { refusal = Granted; shape = q }) (region-refused (Splits d))
+    cond (region-keeps-clear (Number.sub d tolerance) r q && not (crosses r q)) (record { refusal = Granted; shape = q })
+    (region-refused (Splits d))
 
 -- the new region's own questions, 11 and 12
 unfoldable pub inset-checked : Region → Float → Float → Region → Refusal → NewRegion
@@ -149,5 +153,8 @@ region-inset r d = cond (proper-region r) (inset-by r d (check-distance d)) (reg
 
 -- opens every definition above, for a proof that computes with all of them
 unfoldable pub open-insets : Unit {0}
-unfolding region-pieces-refused is-outer with-outer-piece with-hole-piece with-region-piece visit-region-piece region-pieces-refusal region-pieces clear-of-region rings-clear-step region-keeps-clear crosses-ring-step crosses-ring crosses-step crosses inset-clear inset-checked inset-found inset-finished inset-swept region-counted region-plain load-hole-step load-region region-sweep inset-from inset-by region-inset
+unfolding region-pieces-refused is-outer with-outer-piece with-hole-piece with-region-piece visit-region-piece region-pieces-refusal
+    region-pieces clear-of-region rings-clear-step region-keeps-clear crosses-ring-step crosses-ring crosses-step crosses inset-clear
+    inset-checked inset-found inset-finished inset-swept region-counted region-plain load-hole-step load-region region-sweep inset-from
+    inset-by region-inset
 open-insets = tt

@@ -6,7 +6,7 @@ use mathlib.Core.Bool.{false}
 use lib.Ieee.{lt}
 use Rattle.plane.specs.declared.PlanarPoint.{PlanarPoint}
 use Rattle.plane.specs.Points.{distance-to}
-use Rattle.near.specs.Near.{nearest}
+use Rattle.ring_near.specs.Near.{nearest}
 use Rattle.region.specs.declared.Region.{Region}
 use Rattle.region.specs.Regions.{ring-points, ring-count, distance-to-boundary}
 

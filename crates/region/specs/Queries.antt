@@ -1,33 +1,34 @@
--- What is asked of a region that is handed in: question 21 first, then 2 of the point, then the value; and what is written to lent output. Assumes nothing.
+-- What is asked of a region that is handed in: question 21 first, then 2 of the point, then the value; and what is written to lent output.
+-- Assumes nothing.
 use Prim.Native.Nat.{ℕ, _+_, _*_}
 use mathlib.Core.Bool.{false, cond}
-use mathlib.Core.List.{List}
+use mathlib.Core.List.{List, _++_}
 use lib.Dec.{ltb}
-use lib.ListN.{set, replicate}
+use lib.ListN.{take, replicate}
 use lib.Ieee.{Float}
 use Rattle.region.specs.declared.Region.{Region}
 use Rattle.error.specs.declared.Refusal.{Refusal}
 use Rattle.plane.specs.declared.PlanarPoint.{PlanarPoint}
-use Rattle.queries.specs.declared.Placed.{Placed}
-use Rattle.queries.specs.declared.Measured.{Measured}
-use Rattle.queries.specs.declared.Footed.{Footed}
-use Rattle.polygon.specs.declared.Outline.{Outline}
-use Rattle.polygon.specs.declared.NewOutline.{NewOutline}
+use Rattle.outline_ask.specs.declared.Placed.{Placed}
+use Rattle.outline_ask.specs.declared.Measured.{Measured}
+use Rattle.outline_ask.specs.declared.Footed.{Footed}
+use Rattle.outline.specs.declared.Outline.{Outline}
+use Rattle.outline.specs.declared.NewOutline.{NewOutline}
 use Rattle.region.specs.declared.RegionWritten.{RegionWritten}
 use Rattle.region.specs.declared.RegionOffset.{RegionOffset}
 use Rattle.region.specs.declared.InsetWritten.{InsetWritten}
 use Rattle.error.specs.declared.Refusal.the-variants.{Granted, Shape}
 use Rattle.error.specs.Refusals.{granted}
-use Rattle.polygon.specs.Outlines.{no-outline, stored-outline, outline-refused}
-use Rattle.queries.specs.Queries.{placed, measured, footed}
-use Rattle.lent.specs.Writes.{write-ring, write-refusal}
-use Rattle.polygon.specs.Outlines.{ask}
+use Rattle.outline.specs.Outlines.{no-outline, stored-outline, outline-refused}
+use Rattle.outline_ask.specs.Queries.{placed, measured, footed}
+use Rattle.outline_lent.specs.Writes.{write-ring, write-refusal}
+use Rattle.outline.specs.Outlines.{ask}
 use Rattle.region.specs.Regions
-use Rattle.region.specs.Regions.{ring-points, ring-count, hole-points, hole-count}
+use Rattle.region.specs.Regions.{ring-points, ring-count, ring-counts, hole-points, hole-count}
 use Rattle.region.specs.Checks.{proper-region}
 use Rattle.plane.specs.Points.{check-point}
 use Rattle.region.specs.Insets.{region-inset}
-use Rattle.loops.specs.Loop.{rounds}
+use Rattle.base.specs.Loop.{rounds}
 
 unfoldable pub ask-region : Region → Refusal → Refusal
 ask-region r u = ask (proper-region r) u
@@ -61,7 +62,8 @@ hole-outline r k = cond (ltb k (r .holes)) (stored-outline (hole-points r k) (ho
 unfoldable pub region-hole : Region → ℕ → NewOutline
 region-hole r k = read-outline r (hole-outline r k)
 
--- ---- question 20: lent output, the outer ring first, two numbers a vertex. A refused write changes nothing, and a granted one only the numbers that it writes.
+-- ---- question 20: lent output, the outer ring first, two numbers a vertex. A refused write changes nothing, and a granted one only the
+-- numbers that it writes.
 
 -- the vertices of the rings before ring k
 unfoldable pub before-step : Region → ℕ → ℕ → ℕ
@@ -79,19 +81,16 @@ write-rings-step r k out = write-ring (ring-points r k) (ring-count r k) (2 * be
 unfoldable pub write-rings : Region → List Float → List Float
 write-rings r out = rounds (write-rings-step r) (r .holes + 1) out
 
--- the vertices of each ring, for nine rings
-unfoldable pub counts-step : Region → ℕ → List ℕ → List ℕ
-counts-step r k s = set s k (ring-count r k)
-
-unfoldable pub ring-counts : Region → List ℕ
-ring-counts r = rounds (counts-step r) (r .holes + 1) (replicate 9 0)
+-- the vertices of each ring, and zeros up to nine
+unfoldable pub nine-counts : Region → List ℕ
+nine-counts r = take 9 (ring-counts r ++ replicate 9 0)
 
 unfoldable pub no-rings : Refusal → RegionWritten
 no-rings u = record { refusal = u; rings = 0; counts = replicate 9 0 }
 
 -- what is answered of a region, by what its write was refused
 unfoldable pub rings-told : Region → Refusal → RegionWritten
-rings-told r u = cond (granted u) (record { refusal = Granted; rings = r .holes + 1; counts = ring-counts r }) (no-rings u)
+rings-told r u = cond (granted u) (record { refusal = Granted; rings = r .holes + 1; counts = nine-counts r }) (no-rings u)
 
 -- 21, then 20
 unfoldable pub write-region : Region → List Float → Refusal
@@ -129,5 +128,7 @@ written-inset r d out = inset-over (region-inset r d) out
 
 -- opens every definition above, for a proof that computes with all of them
 unfoldable pub open-queries : Unit {0}
-unfolding ask-region region-contains region-distance region-closest region-area region-perimeter read-outline region-outer hole-outline region-hole before-step before needed write-rings-step write-rings counts-step ring-counts no-rings rings-told write-region region-write written-region write-inset inset-told inset-write inset-over written-inset
+unfolding ask-region region-contains region-distance region-closest region-area region-perimeter read-outline region-outer hole-outline
+    region-hole before-step before needed write-rings-step write-rings nine-counts no-rings rings-told write-region region-write
+    written-region write-inset inset-told inset-write inset-over written-inset
 open-queries = tt

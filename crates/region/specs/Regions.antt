@@ -1,28 +1,33 @@
 -- holes.rs: an outer ring with holes. Hole k of a region is the list of its numbers from place 64 * k on, with its count. Assumes nothing.
 use Prim.Native.Nat.{ℕ, zero, suc, _+_, _*_}
 use mathlib.Core.Bool.{Bool, cond}
-use mathlib.Core.List.{List}
+use mathlib.Core.List.{List, [], _∷_, _++_}
 use lib.Dec.{ltb}
 use lib.ListN.{getD, set, replicate, drop}
 use lib.Ieee.{Float, lt}
 use Rattle.region.specs.declared.Region.{Region}
-use Rattle.polygon.specs.declared.Outline.{Outline}
+use Rattle.outline.specs.declared.Outline.{Outline}
 use Rattle.plane.specs.declared.Containment.{Containment}
 use Rattle.plane.specs.declared.Containment.the-variants.{Inside, OnBoundary, Outside}
 use Rattle.plane.specs.declared.PlanarPoint.{PlanarPoint}
-use Rattle.measures.specs.Measures
+use Rattle.ring_measure.specs.Measures
 use Rattle.math.specs.Number
 use Rattle.math.specs.Number.{zero-float, distance, add, fmax}
-use Rattle.polygon.specs.Outlines.{no-outline}
+use Rattle.outline.specs.Outlines.{no-outline}
 use Rattle.ring.specs.Store.{stored}
-use Rattle.contain.specs.Contains.{ring-contains}
-use Rattle.loops.specs.Loop.{rounds}
+use Rattle.ring_contain.specs.Contains.{ring-contains}
+use Rattle.base.specs.Loop.{rounds}
 use Rattle.plane.specs.Points.{distance-to}
-use Rattle.measures.specs.Measures.{extent}
-use Rattle.near.specs.Near.{nearest}
+use Rattle.ring_measure.specs.Measures.{extent}
+use Rattle.ring_near.specs.Near.{nearest}
 
 unfoldable pub no-region : Region
 no-region = record { outer = no-outline; points = replicate 512 zero-float; counts = replicate 8 0; holes = 0 }
+
+-- a region handed in: the numbers and the count of its outer ring, the flat numbers of its holes, their counts, and how many holes there
+-- are
+unfoldable pub region-of : List Float → ℕ → List Float → List ℕ → ℕ → Region
+region-of ps n hs cs h = record { outer = record { points = ps; count = n }; points = hs; counts = cs; holes = h }
 
 -- hole k: its numbers, and how many vertices they are
 unfoldable pub hole-points : Region → ℕ → List Float
@@ -40,13 +45,26 @@ unfoldable pub ring-count : Region → ℕ → ℕ
 ring-count r zero = r .outer .count
 ring-count r (suc k) = hole-count r k
 
+-- the vertex counts of its rings
+unfoldable pub ring-count-step : Region → ℕ → List ℕ → List ℕ
+ring-count-step r k counts = counts ++ (ring-count r k ∷ [])
+
+unfoldable pub ring-counts : Region → List ℕ
+ring-counts r = rounds (ring-count-step r) (r .holes + 1) []
+
 unfoldable pub with-outer : Region → Outline → Region
 with-outer r o = record { outer = o; points = r .points; counts = r .counts; holes = r .holes }
 
--- a hole more, of n vertices of ps, turned round if `back`, in the place after the others
+-- a hole more, of n vertices of ps, reversed if `back`, in the place after the others
 unfoldable pub store-hole : Region → List Float → ℕ → Bool → Region
 store-hole r ps n back =
-    record { outer = r .outer; points = stored ps n back (32 * r .holes) (r .points); counts = set (r .counts) (r .holes) n; holes = r .holes + 1 }
+    record {
+      outer = r .outer;
+      points = stored ps n back (32 * r .holes) (r .points);
+      counts = set (r .counts) (r .holes) n;
+      holes = r
+          .holes + 1;
+    }
 
 -- a hole past the eighth is counted and not stored
 unfoldable pub count-hole : Region → Region
@@ -108,5 +126,7 @@ region-extent r = rounds (extent-step r) (r .holes) (extent (r .outer .points) (
 
 -- opens every definition above, for a proof that computes with all of them
 unfoldable pub open-regions : Unit {0}
-unfolding no-region hole-points hole-count ring-points ring-count with-outer store-hole count-hole with-hole in-hole while-inside contains-step region-contains closer closest-step closest-boundary-point distance-to-boundary area-step area perimeter-step perimeter extent-step region-extent
+unfolding no-region region-of hole-points hole-count ring-points ring-count ring-count-step ring-counts with-outer store-hole count-hole
+    with-hole in-hole while-inside contains-step region-contains closer closest-step closest-boundary-point distance-to-boundary area-step
+    area perimeter-step perimeter extent-step region-extent
 open-regions = tt

@@ -7,7 +7,7 @@ use lib.ListN.{getD}
 use lib.Ieee.{Float}
 use Rattle.error.specs.declared.Refusal.{Refusal}
 use Rattle.error.specs.Refusals.{granted, number}
-use Rattle.values.specs.Carries.{told, carried-of, carried}
+use Rattle.error.specs.Carries.{told, carried-of, carried}
 use Rattle.front.specs.declared.Loaded.{Loaded}
 use Rattle.offset.specs.Answers.{AnswerDemand, Accounts}
 use Rattle.region.specs.declared.Region.{Region}
@@ -17,7 +17,8 @@ use Rattle.region.specs.Checks.{proper-region, region}
 use Rattle.region.specs.Demand.{edges-of, region-load}
 use Rattle.region.proofs.Loaded.{region-again}
 use Rattle.region.proofs.Counted.{inset-write-accounts}
-use Rattle.region_c.specs.Told.{inset-answer, told-inset, inset-refused, inset-made}
+use Rattle.told.specs.Told.{inset-answer}
+use Rattle.region_c.specs.Told.{told-inset, inset-refused, inset-made}
 use Rattle.region_c.specs.Counted.{ToldDemand, ToldAccounts, MadeAccounts, RegionTold, InsetMadeAccounts, RegionInsetTold}
 
 pub told-demand : (n r : ℕ) (u : Refusal) (c e j : ℕ) → AnswerDemand n r u c e j → ToldDemand n r ((carried u) .question) ((carried u) .first) c e j

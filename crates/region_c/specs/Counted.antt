@@ -12,8 +12,8 @@ use Rattle.region.specs.declared.NewRegion.{NewRegion}
 use Rattle.region.specs.declared.InsetWritten.{InsetWritten}
 use Rattle.region.specs.Checks.{region}
 use Rattle.region.specs.Demand.{edges-of, region-load}
-use Rattle.region_c.specs.declared.LwRegionOffset.{LwRegionOffset}
-use Rattle.region_c.specs.Told.{told-inset, inset-made}
+use Rattle.told.specs.declared.LwRegionOffset.{LwRegionOffset}
+use Rattle.region_c.specs.Told.{inset-made, lw-region-inset}
 
 -- `AnswerDemand`, of a refusal that is its number and what it carries first
 pub record ToldDemand (n r : ℕ) (refusal first c e j : ℕ) : Type 0 where
@@ -50,4 +50,4 @@ InsetMadeAccounts =
 abbrev pub RegionInsetTold : Type 0
 RegionInsetTold =
     (lengths : List ℕ) (ps : List Float) (distance : Float) (out : List Float) →
-    RegionTold distance (region lengths ps) (told-inset (inset-made (region lengths ps) distance out))
+    RegionTold distance (region lengths ps) (lw-region-inset lengths ps distance out)

@@ -45,7 +45,7 @@ fn made<'a>(words: &'a [u64], numbers: &'a [f64]) -> NewRegion {
     let lengths = lengths_of(parts::fields_from(words, 1, words.len()));
     let first = after(1, rings);
     let rest = parts::numbers_from(numbers, first, numbers.len());
-    regions::new(lengths_from(&lengths, 0, rings), rest)
+    region_new::new(lengths_from(&lengths, 0, rings), rest)
 }
 
 // Rings and the count of each are in the first ten fields, 0 where there is no region, and the numbers in the rest.
@@ -54,7 +54,7 @@ fn rings_are<'a>(answer: &'a [u64], rings: usize, counts: &'a [usize], ps: &'a [
     let mut end = 10usize;
     let mut k = 0usize;
     while k < 9 {
-        let n = holes::count_at(counts, k);
+        let n = region_given::count_at(counts, k);
         k += 1;
         same = same & parts::whole_is(answer, k, n);
         end = after(end, parts::twice(n));
@@ -75,7 +75,7 @@ fn shape_is(answer: &[u64], r: Region) -> bool {
     let points = r.points;
     let counts = r.counts;
     let mut out = [0.0; 768];
-    let w = regionlent::write_region(&ring, outer.count, &points, &counts, r.holes, &mut out);
+    let w = region_lent::write_region(&ring, outer.count, &points, &counts, r.holes, &mut out);
     written_is(answer, w, &out)
 }
 
@@ -107,7 +107,7 @@ pub(crate) fn inset<'a>(answer: &'a [u64], words: &'a [u64], numbers: &'a [f64])
     let refusal = made.refusal;
     let shape = made.shape;
     let mut out = [0.0; 768];
-    let w = insetwrite::inset_into(shape, ring::number_at(numbers, 0), &mut out);
+    let w = region_inset_lent::inset_into(shape, ring::number_at(numbers, 0), &mut out);
     let of_inset = w.refusal;
     let told = error::choose(refusal.granted(), of_inset, refusal);
     kinds::carried_is(answer, told) & inset_is(answer, w, &out)
@@ -158,9 +158,9 @@ fn place_is<'a>(
     h: usize,
     p: PlanarPoint,
 ) -> bool {
-    let placed = regionqueries::contains(ring, n, points, counts, h, p);
-    let far = regionqueries::distance_to_boundary(ring, n, points, counts, h, p);
-    let foot = regionqueries::closest_boundary_point(ring, n, points, counts, h, p);
+    let placed = region_ask::contains(ring, n, points, counts, h, p);
+    let far = region_ask::distance_to_boundary(ring, n, points, counts, h, p);
+    let foot = region_ask::closest_boundary_point(ring, n, points, counts, h, p);
     let of_place = placed.refusal;
     let of_far = far.refusal;
     let of_foot = foot.refusal;
@@ -182,8 +182,8 @@ fn measures_are<'a>(
     counts: &'a [usize],
     h: usize,
 ) -> bool {
-    let area = regionqueries::area(ring, n, points, counts, h);
-    let perimeter = regionqueries::perimeter(ring, n, points, counts, h);
+    let area = region_ask::area(ring, n, points, counts, h);
+    let perimeter = region_ask::perimeter(ring, n, points, counts, h);
     let of_area = area.refusal;
     let of_perimeter = perimeter.refusal;
     shapes::refusal_is(answer, of_area)

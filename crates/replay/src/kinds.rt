@@ -2,10 +2,10 @@
 use crate::parts;
 use areas::Area;
 use areas::NewArea;
+use error::Carried;
 use error::Refusal;
+use outline::Outline;
 use plane::PlanarPoint;
-use polygon::Outline;
-use values::Carried;
 
 // What a refusal carries is in the first five fields.
 pub(crate) fn carried_is(answer: &[u64], r: Refusal) -> bool {

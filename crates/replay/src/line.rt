@@ -19,13 +19,13 @@ struct Word {
 
 // The first field of the bytes: 16 digits, and a comma or no more.
 fn first_word(rest: &[u8]) -> Word {
-    let mut sound = (rest.len() == 16) | (places::byte_at(rest, 16) == 44);
+    let mut sound = (rest.len() == 16) | (format_fields::byte_at(rest, 16) == 44);
     let mut value = 0u64;
     let mut k = 0usize;
     while k < 16 {
-        let b = places::byte_at(rest, k);
-        sound = sound & numerals::is_hex(b);
-        value = value % 1152921504606846976 * 16 + numerals::hex_part(b) as u64 % 16;
+        let b = format_fields::byte_at(rest, k);
+        sound = sound & format_numerals::is_hex(b);
+        value = value % 1152921504606846976 * 16 + format_numerals::hex_part(b) as u64 % 16;
         k += 1;
     }
     Word {
@@ -39,7 +39,7 @@ fn store<'a>(fields: &'a mut [u64], numbers: &'a mut [f64], k: usize, v: u64) {
     if k < fields.len() {
         if k < numbers.len() {
             fields[k] = v;
-            numbers[k] = numerals::float_of(v);
+            numbers[k] = format_numerals::float_of(v);
         }
     }
 }
@@ -58,7 +58,7 @@ fn read_fields<'a>(line: &'a [u8], fields: &'a mut [u64], numbers: &'a mut [f64]
         sound = sound & w.sound;
         k += 1;
     }
-    ring::choose(sound, count, 0)
+    base::choose(sound, count, 0)
 }
 
 // Whether the answer is the one that the library gives to a question of this kind.

@@ -2,8 +2,8 @@
 use crate::kinds;
 use crate::parts;
 use offset::Offset;
-use polygon::Outline;
-use polygon::store;
+use outline::Outline;
+use outline::store;
 
 // What a refusal carries is in the first five fields, the completed events in the next three, the shape in the rest.
 fn offset_is(answer: &[u64], made: Offset) -> bool {
@@ -27,8 +27,8 @@ pub(crate) fn offset<'a>(answer: &'a [u64], words: &'a [u64], numbers: &'a [f64]
     };
     let distance = ring::number_at(numbers, 1);
     match parts::field_at(words, 0) {
-        0 => offset_is(answer, offsetting::inset(shape, distance)),
-        1 => offset_is(answer, offsetting::outset(shape, distance)),
+        0 => offset_is(answer, offset_run::inset(shape, distance)),
+        1 => offset_is(answer, offset_run::outset(shape, distance)),
         _ => false,
     }
 }

@@ -35,7 +35,7 @@ pub(crate) fn refusal_is(answer: &[u64], r: Refusal) -> bool {
 pub(crate) fn contains<'a>(answer: &'a [u64], words: &'a [u64], numbers: &'a [f64]) -> bool {
     let n = parts::field_at(words, 0) as usize;
     let shape = parts::numbers_from(numbers, 3, numbers.len());
-    let placed = queries::contains(shape, n, point_at(numbers, 1));
+    let placed = outline_ask::contains(shape, n, point_at(numbers, 1));
     let refusal = placed.refusal;
     let found = placed.place;
     kinds::number_is(answer, 0, refusal)
@@ -45,8 +45,8 @@ pub(crate) fn contains<'a>(answer: &'a [u64], words: &'a [u64], numbers: &'a [f6
 
 // `distance_to_boundary` and `closest_boundary_point` answer the same, each its part.
 fn nearest_parts<'a>(answer: &'a [u64], shape: &'a [f64], n: usize, p: PlanarPoint) -> bool {
-    let far = queries::distance_to_boundary(shape, n, p);
-    let foot = queries::closest_boundary_point(shape, n, p);
+    let far = outline_ask::distance_to_boundary(shape, n, p);
+    let foot = outline_ask::closest_boundary_point(shape, n, p);
     let far_refusal = far.refusal;
     let foot_refusal = foot.refusal;
     let foot_point = foot.point;
@@ -60,7 +60,7 @@ pub(crate) fn nearest<'a>(answer: &'a [u64], words: &'a [u64], numbers: &'a [f64
     let n = parts::field_at(words, 0) as usize;
     let shape = parts::numbers_from(numbers, 3, numbers.len());
     let p = point_at(numbers, 1);
-    let near = queries::nearest(shape, n, p);
+    let near = outline_ask::nearest(shape, n, p);
     let refusal = near.refusal;
     let foot = near.point;
     kinds::number_is(answer, 0, refusal)
@@ -73,9 +73,9 @@ pub(crate) fn nearest<'a>(answer: &'a [u64], words: &'a [u64], numbers: &'a [f64
 pub(crate) fn measures<'a>(answer: &'a [u64], words: &'a [u64], numbers: &'a [f64]) -> bool {
     let n = parts::field_at(words, 0) as usize;
     let shape = parts::numbers_from(numbers, 1, numbers.len());
-    let made = sizes::area(shape, n);
-    let perimeter = sizes::perimeter(shape, n);
-    let extent = sizes::extent(shape, n);
+    let made = outline_sizes::area(shape, n);
+    let perimeter = outline_sizes::perimeter(shape, n);
+    let extent = outline_sizes::extent(shape, n);
     let area = made.area;
     let of_area = made.refusal;
     let of_perimeter = perimeter.refusal;
@@ -98,7 +98,7 @@ pub(crate) fn clearance<'a>(answer: &'a [u64], words: &'a [u64], numbers: &'a [f
     let cut = parts::least(parts::twice(n), both.len());
     let first = parts::numbers_from(both, 0, cut);
     let second = parts::numbers_from(both, cut, both.len());
-    let gap = sizes::clearance(first, n, second, m);
+    let gap = outline_sizes::clearance(first, n, second, m);
     let refusal = gap.refusal;
     refusal_is(answer, refusal) & parts::float_is(answer, 1, gap.value) & (answer.len() == 2)
 }
@@ -107,8 +107,8 @@ pub(crate) fn edge<'a>(answer: &'a [u64], words: &'a [u64], numbers: &'a [f64]) 
     let n = parts::field_at(words, 0) as usize;
     let k = parts::field_at(words, 1) as usize;
     let shape = parts::numbers_from(numbers, 2, numbers.len());
-    let edge = readers::edge(shape, n, k);
-    let vertex = readers::vertex(shape, n, k);
+    let edge = outline_ask::edge(shape, n, k);
+    let vertex = outline_ask::vertex(shape, n, k);
     let of_edge = edge.refusal;
     let of_vertex = vertex.refusal;
     let start = edge.start;

@@ -30,7 +30,7 @@ pub(crate) fn meeting<'a>(answer: &'a [u64], numbers: &'a [f64]) -> bool {
     let q1 = shapes::point_at(numbers, 4);
     let q2 = shapes::point_at(numbers, 6);
     let meet = segment::segments_meet(p1, p2, q1, q2);
-    only_is(answer, ring::choose(meet, 1, 0), numbers, 8)
+    only_is(answer, base::choose(meet, 1, 0), numbers, 8)
 }
 
 pub(crate) fn folded<'a>(answer: &'a [u64], numbers: &'a [f64]) -> bool {
@@ -38,5 +38,5 @@ pub(crate) fn folded<'a>(answer: &'a [u64], numbers: &'a [f64]) -> bool {
     let a = shapes::point_at(numbers, 2);
     let b = shapes::point_at(numbers, 4);
     let folds = segment::folds_back(shared, a, b);
-    only_is(answer, ring::choose(folds, 1, 0), numbers, 6)
+    only_is(answer, base::choose(folds, 1, 0), numbers, 6)
 }

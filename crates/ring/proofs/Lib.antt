@@ -1,3 +1,4 @@
-pub mod Choices
 pub mod Vertices
 pub mod Starts
+pub mod Sources
+pub mod Storing

@@ -1,4 +1,5 @@
--- polygon.rs, the vertices and edges of a ring. A ring is a list of numbers, two a vertex, and n says how many vertices it has. Assumes nothing.
+-- polygon.rs, the vertices and edges of a ring. A ring is a list of numbers, two a vertex, and n says how many vertices it has. Assumes
+-- nothing.
 use Prim.Native.Nat.{ℕ, _+_, _-_, _*_}
 use mathlib.Core.Bool.{Bool, cond, _&&_}
 use mathlib.Core.List.{List}

@@ -6,7 +6,7 @@ use lib.ListN.{set}
 use lib.Ieee.{Float}
 use Rattle.plane.specs.declared.PlanarPoint.{PlanarPoint}
 use Rattle.ring.specs.Ring.{stored-at}
-use Rattle.loops.specs.Loop.{rounds}
+use Rattle.base.specs.Loop.{rounds}
 
 unfoldable pub store-vertex : List Float → ℕ → PlanarPoint → List Float
 store-vertex out k v = set (set out (2 * k) (v .east)) (2 * k + 1) (v .north)

@@ -1,25 +1,9 @@
 // The vertices of a ring. A ring is a list of numbers, two a vertex; a vertex out of the list is NaN.
 ghost use mathlib.Core.Path.{_≡_};
-ghost use mathlib.Core.Bool.{cond};
-ghost use Prim.Native.Nat.{_-_};
 ghost use lib.ListN.{getD};
 ghost use lib.Ieee.{nan};
 ghost use Rattle.ring.specs.Ring;
 use plane::PlanarPoint;
-
-// a where the test holds, else b.
-pub fn choose(test: bool, a: usize, b: usize) -> usize
-    ensures { λ r. ⌜ r ≡ cond test a b ⌝ }
-{
-    if test { a } else { b }
-}
-
-// a - b, or 0 where b is larger.
-pub fn less(a: usize, b: usize) -> usize
-    ensures { λ r. ⌜ r ≡ a - b ⌝ }
-{
-    if b <= a { a - b } else { 0 }
-}
 
 pub fn number_at(ps: &[f64], i: usize) -> f64
     ensures { λ r. ⌜ r ≡ getD (now (ps .entry)) i nan ⌝ }
@@ -54,7 +38,7 @@ pub fn vertex_at(ps: &[f64], k: usize) -> PlanarPoint
 pub fn following(n: usize, k: usize) -> usize
     ensures { λ r. ⌜ r ≡ Ring.following n k ⌝ }
 {
-    if k < less(n, 1) { k + 1 } else { 0 }
+    if k < base::less(n, 1) { k + 1 } else { 0 }
 }
 
 pub fn edge_end(ps: &[f64], n: usize, k: usize) -> PlanarPoint
@@ -67,7 +51,7 @@ pub fn edge_end(ps: &[f64], n: usize, k: usize) -> PlanarPoint
 pub(crate) fn source(n: usize, back: bool, k: usize) -> usize
     ensures { λ r. ⌜ r ≡ Ring.source n back k ⌝ }
 {
-    choose(back & (0 < k), less(n, k), k)
+    base::choose(back & (0 < k), base::less(n, k), k)
 }
 
 pub fn stored_at(ps: &[f64], n: usize, back: bool, k: usize) -> PlanarPoint

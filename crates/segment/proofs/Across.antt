@@ -6,7 +6,7 @@ use Rattle.math.specs.Number.{zero-float}
 use Rattle.plane.specs.declared.PlanarPoint.{PlanarPoint}
 use Rattle.plane.specs.Plane.{sub, dot}
 use Rattle.turn.specs.declared.Turn.{Turn}
-use Rattle.turn.specs.Turns.{Doubles, turn, is-straight, apart}
+use Rattle.turn.specs.Turns.{DoublePoint, turn, is-straight, apart}
 use Rattle.segment.specs.Segments.{within-box, touches, meet-by, segments-meet, folds-back}
 use Rattle.segment.specs.Meeting.{one-side}
 use Rattle.segment.proofs.Sides.{one-side-no-meet}
@@ -31,7 +31,7 @@ unfolding segments-meet
 by-turns p1 p2 q1 q2 d1 d2 d3 d4 e1 e2 e3 e4 r h = rw (← e1, ← e2, ← e3, ← e4) h
 
 -- ---- `segments_meet` leaves early
-module _ (p1 p2 q1 q2 : PlanarPoint) (f1 : Doubles p1) (f2 : Doubles p2) (g1 : Doubles q1) (g2 : Doubles q2) (d e : Turn) (t : Bool) (h : t ≡ one-side d e) (k : t ≡ true) where
+module _ (p1 p2 q1 q2 : PlanarPoint) (f1 : DoublePoint p1) (f2 : DoublePoint p2) (g1 : DoublePoint q1) (g2 : DoublePoint q2) (d e : Turn) (t : Bool) (h : t ≡ one-side d e) (k : t ≡ true) where
   pub early-second : d ≡ turn q1 q2 p1 → e ≡ turn q1 q2 p2 → false ≡ segments-meet p1 p2 q1 q2
   early-second a b = sym (one-side-no-meet .beside-second p1 p2 q1 q2 f1 f2 g1 g2 (rw (← a, ← b) (sym h ∙ k)))
 

@@ -6,3 +6,5 @@ pub mod Theorem
 pub mod OnSegment
 pub mod Symmetric
 pub mod Sides
+pub mod Outside
+pub mod Apart

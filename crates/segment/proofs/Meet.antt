@@ -3,16 +3,10 @@ use mathlib.Core.Path.{_≡_, sym, _∙_, subst}
 use Prim.Native.Nat.{ℕ, _+_, _-_, _*_, _<_}
 use native.Mathlib.Nat.{mul-add, add-mul, mul-assoc, mul-comm, mul-left-comm, add-assoc, add-comm, add-left-comm}
 use native.Mathlib.Omega.{arith}
-use Rattle.segment.specs.Meeting.{Place, Share}
+use Rattle.turn.specs.Turns.{Place, left-places, right-places}
+use Rattle.segment.specs.Meeting.{Share}
 
 pub ruleset ring = (mul-add, add-mul, mul-assoc, mul-comm, mul-left-comm, add-assoc, add-comm, add-left-comm)
-
--- The turn from a by b to c is left where right-sum < left-sum, straight where they are equal.
-abbrev pub left-sum : Place → Place → Place → ℕ
-left-sum a b c = a .e * b .n + b .e * c .n + c .e * a .n
-
-abbrev pub right-sum : Place → Place → Place → ℕ
-right-sum a b c = a .n * b .e + b .n * c .e + c .n * a .e
 
 -- ---- Cramer's rule, all terms moved to where they are added
 cramer-east : (p1e p1n p2e p2n q1e q1n q2e q2n : ℕ)
@@ -25,7 +19,7 @@ cramer-north : (p1e p1n p2e p2n q1e q1n q2e q2n : ℕ)
     ≡ (p1e * p2n + p2e * q2n + q2e * p1n) * q1n + (p1n * p2e + p2n * q1e + q1n * p1e) * q2n + ((q1n * q2e + q2n * p1e + p1n * q1e) * p2n + (q1e * q2n + q2e * p2n + p2e * q1n) * p1n)
 cramer-north p1e p1n p2e p2n q1e q1n q2e q2n = simp ring
 
-pub four-turns : (p1 p2 q1 q2 : Place) → left-sum q1 q2 p1 + right-sum q1 q2 p2 + (left-sum p1 p2 q1 + right-sum p1 p2 q2) ≡ left-sum p1 p2 q2 + right-sum p1 p2 q1 + (right-sum q1 q2 p1 + left-sum q1 q2 p2)
+pub four-turns : (p1 p2 q1 q2 : Place) → left-places q1 q2 p1 + right-places q1 q2 p2 + (left-places p1 p2 q1 + right-places p1 p2 q2) ≡ left-places p1 p2 q2 + right-places p1 p2 q1 + (right-places q1 q2 p1 + left-places q1 q2 p2)
 four-turns p1 p2 q1 q2 = simp ring
 
 -- ---- a proper crossing shares a point: the weights are the turns themselves
@@ -36,20 +30,20 @@ sums : (i i' k k' r1 l2 l3 r4 : ℕ) → i + r1 + (i' + l2) + (l3 + r4) ≡ k' +
 sums i i' k k' r1 l2 l3 r4 h = omega arith
 
 -- p1 on the left of q1 q2 and p2 on its right, q1 on the right of p1 p2 and q2 on its left
-pub crossing : (p1 p2 q1 q2 : Place) (i i' k k' : ℕ) → 0 < i → i + right-sum q1 q2 p1 ≡ left-sum q1 q2 p1 → i' + left-sum q1 q2 p2 ≡ right-sum q1 q2 p2
-    → k + left-sum p1 p2 q1 ≡ right-sum p1 p2 q1 → k' + right-sum p1 p2 q2 ≡ left-sum p1 p2 q2 → Share p1 p2 q1 q2
+pub crossing : (p1 p2 q1 q2 : Place) (i i' k k' : ℕ) → 0 < i → i + right-places q1 q2 p1 ≡ left-places q1 q2 p1 → i' + left-places q1 q2 p2 ≡ right-places q1 q2 p2
+    → k + left-places p1 p2 q1 ≡ right-places p1 p2 q1 → k' + right-places p1 p2 q2 ≡ left-places p1 p2 q2 → Share p1 p2 q1 q2
 crossing p1 p2 q1 q2 i i' k k' I d1 d2 d3 d4 = record {
   i' = i';
   i = i;
   k' = k';
   k = k;
-  whole = sums i i' k k' (right-sum q1 q2 p1) (left-sum q1 q2 p2) (left-sum p1 p2 q1) (right-sum p1 p2 q2) (rw (d1, d2, d3, d4) (four-turns p1 p2 q1 q2));
+  whole = sums i i' k k' (right-places q1 q2 p1) (left-places q1 q2 p2) (left-places p1 p2 q1) (right-places p1 p2 q2) (rw (d1, d2, d3, d4) (four-turns p1 p2 q1 q2));
   some = omega arith;
   east =
-      weigh i i' k k' (right-sum q1 q2 p1) (left-sum q1 q2 p2) (left-sum p1 p2 q1) (right-sum p1 p2 q2) (p1 .e) (p2 .e) (q1 .e) (q2 .e)
+      weigh i i' k k' (right-places q1 q2 p1) (left-places q1 q2 p2) (left-places p1 p2 q1) (right-places p1 p2 q2) (p1 .e) (p2 .e) (q1 .e) (q2 .e)
       (rw (d1, d2, d3, d4) (cramer-east (p1 .e) (p1 .n) (p2 .e) (p2 .n) (q1 .e) (q1 .n) (q2 .e) (q2 .n)));
   north =
-      weigh i i' k k' (right-sum q1 q2 p1) (left-sum q1 q2 p2) (left-sum p1 p2 q1) (right-sum p1 p2 q2) (p1 .n) (p2 .n) (q1 .n) (q2 .n)
+      weigh i i' k k' (right-places q1 q2 p1) (left-places q1 q2 p2) (left-places p1 p2 q1) (right-places p1 p2 q2) (p1 .n) (p2 .n) (q1 .n) (q2 .n)
       (rw (d1, d2, d3, d4) (cramer-north (p1 .e) (p1 .n) (p2 .e) (p2 .n) (q1 .e) (q1 .n) (q2 .e) (q2 .n)));
 }
 
@@ -68,7 +62,7 @@ along x s t an bn pn h = omega arith
 pub itself : (x s t : ℕ) → (t + s) * (x + s) ≡ t * x + s * (x + s + t)
 itself x s t = omega arith
 
-pub touching : (a b p : Place) (s t : ℕ) → 0 < s + t → left-sum a b p ≡ right-sum a b p → p .e ≡ a .e + s → b .e ≡ a .e + s + t → Between a b p
+pub touching : (a b p : Place) (s t : ℕ) → 0 < s + t → left-places a b p ≡ right-places a b p → p .e ≡ a .e + s → b .e ≡ a .e + s + t → Between a b p
 touching a b p s t S h e f = record {
   k' = t;
   k = s;
@@ -91,7 +85,7 @@ split-right : (i' i q1e q1n q2e q2n p1e p1n p2e p2n : ℕ) → i' * (q1n * q2e +
 split-right i' i q1e q1n q2e q2n p1e p1n p2e p2n = simp ring
 
 -- i' times the turn of p1 about q1 q2, and i times that of p2, come to nothing
-pub balanced : (p1 p2 q1 q2 : Place) (s : Share p1 p2 q1 q2) → s .i' * left-sum q1 q2 p1 + s .i * left-sum q1 q2 p2 ≡ s .i' * right-sum q1 q2 p1 + s .i * right-sum q1 q2 p2
+pub balanced : (p1 p2 q1 q2 : Place) (s : Share p1 p2 q1 q2) → s .i' * left-places q1 q2 p1 + s .i * left-places q1 q2 p2 ≡ s .i' * right-places q1 q2 p1 + s .i * right-places q1 q2 p2
 balanced p1 p2 q1 q2 s =
     split-left (s .i') (s .i) (q1 .e) (q1 .n) (q2 .e) (q2 .n) (p1 .e) (p1 .n) (p2 .e) (p2 .n)
     ∙ middle

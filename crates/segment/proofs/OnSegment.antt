@@ -4,8 +4,9 @@ use Prim.Native.Nat.{ℕ, _+_, _*_, _<_}
 use native.Mathlib.Nat.{add-mul, mul-comm, eq-of-mul-eq-mul-right}
 use Rattle.turn.specs.declared.Turn.{Turn}
 use Rattle.segment.specs.Segments.{touches}
-use Rattle.segment.specs.Meeting.{Place, place-at, Share, TouchIffOn}
-use Rattle.segment.proofs.Meet.{left-sum, right-sum, Between, balanced}
+use Rattle.turn.specs.Turns.{Place, place-at, left-places, right-places}
+use Rattle.segment.specs.Meeting.{Share, TouchIffOn}
+use Rattle.segment.proofs.Meet.{Between, balanced}
 use Rattle.segment.proofs.Shared.{Touch, mean, touch-between}
 use Rattle.segment.proofs.Theorem.{turn-is, touch-in, touch-out}
 
@@ -35,7 +36,7 @@ exchanged a b p s = record {
 
 share-touch : (a b p : Place) → Share a b p p → Touch a b p
 share-touch a b p s = record {
-  line = same (s .k') (s .k) (left-sum a b p) (right-sum a b p) (subst (λ (x : ℕ). 0 < x) (s .whole) (s .some)) (balanced p p a b (exchanged a b p s));
+  line = same (s .k') (s .k) (left-places a b p) (right-places a b p) (subst (λ (x : ℕ). 0 < x) (s .whole) (s .some)) (balanced p p a b (exchanged a b p s));
   east = mean (s .i') (s .i) (a .e) (b .e) (p .e) (s .some) (weighted (p .e) ∙ sym (s .east));
   north = mean (s .i') (s .i) (a .n) (b .n) (p .n) (s .some) (weighted (p .n) ∙ sym (s .north));
 }

@@ -6,8 +6,10 @@ use native.Mathlib.Nat.{add-mul, mul-comm, add-comm, le-of-lt, le-of-eq, le-anti
 use native.Mathlib.Nat.{le-of-mul-le-mul-right, lt-irrefl, lt-trans, le-trans, zero-mul, add-zero}
 use native.Mathlib.Omega.{arith}
 use Rattle.hypotenuse.proofs.Order.{le-or-lt}
-use Rattle.segment.specs.Meeting.{Place, Share}
-use Rattle.segment.proofs.Meet.{ring, left-sum, right-sum, Between, balanced, four-turns, touching, crossing}
+use Rattle.turn.specs.Turns.{Place, left-places, right-places}
+use Rattle.turn.proofs.Laws.{back-left, back-right}
+use Rattle.segment.specs.Meeting.{Share}
+use Rattle.segment.proofs.Meet.{ring, Between, balanced, four-turns, touching, crossing}
 
 -- ---- what the tests say
 
@@ -18,7 +20,7 @@ pub data In (a b x : ℕ) : Type 0 where
 
 -- p lies on the line of a and b, and in their box
 pub record Touch (a b p : Place) : Type 0 where
-  pub line : left-sum a b p ≡ right-sum a b p
+  pub line : left-places a b p ≡ right-places a b p
   pub east : In (a .e) (b .e) (p .e)
   pub north : In (a .n) (b .n) (p .n)
 
@@ -28,7 +30,7 @@ pub data Split (l r l′ r′ : ℕ) : Type 0 where
   right-left : l < r → r′ < l′ → Split l r l′ r′
 
 pub data Meets (p1 p2 q1 q2 : Place) : Type 0 where
-  across : Split (left-sum q1 q2 p1) (right-sum q1 q2 p1) (left-sum q1 q2 p2) (right-sum q1 q2 p2) → Split (left-sum p1 p2 q1) (right-sum p1 p2 q1) (left-sum p1 p2 q2) (right-sum p1 p2 q2) → Meets p1 p2 q1 q2
+  across : Split (left-places q1 q2 p1) (right-places q1 q2 p1) (left-places q1 q2 p2) (right-places q1 q2 p2) → Split (left-places p1 p2 q1) (right-places p1 p2 q1) (left-places p1 p2 q2) (right-places p1 p2 q2) → Meets p1 p2 q1 q2
   at-p1 : Touch q1 q2 p1 → Meets p1 p2 q1 q2
   at-p2 : Touch q1 q2 p2 → Meets p1 p2 q1 q2
   at-q1 : Touch p1 p2 q1 → Meets p1 p2 q1 q2
@@ -75,7 +77,7 @@ same-factor w l r h e = le-antisymm (le-of-mul-le-mul-right {k = w} (le-of-eq (t
     turned l r e = omega arith
 
 -- ---- an end that is the shared point
-ending : (a b p : Place) (k′ k : ℕ) → 0 < k′ + k → (k′ + k) * p .e ≡ k′ * a .e + k * b .e → (k′ + k) * p .n ≡ k′ * a .n + k * b .n → left-sum a b p ≡ right-sum a b p → Touch a b p
+ending : (a b p : Place) (k′ k : ℕ) → 0 < k′ + k → (k′ + k) * p .e ≡ k′ * a .e + k * b .e → (k′ + k) * p .n ≡ k′ * a .n + k * b .n → left-places a b p ≡ right-places a b p → Touch a b p
 ending a b p k′ k w e n l = record { line = l; east = mean k′ k (a .e) (b .e) (p .e) w e; north = mean k′ k (a .n) (b .n) (p .n) w n }
 
 -- ---- two turns that balance
@@ -149,11 +151,11 @@ order a b = go (le-or-lt (a .e) (b .e))
 parted : (x y : ℕ) → x ≤ y → y ≡ x + (y - x)
 parted x y h = omega arith
 
-between-touch : (a b p : Place) → left-sum a b p ≡ right-sum a b p → Between a b p → Touch a b p
+between-touch : (a b p : Place) → left-places a b p ≡ right-places a b p → Between a b p → Touch a b p
 between-touch a b p l t = ending a b p (t .k') (t .k) (t .some) (t .east) (t .north) l
 
 -- east from a to b, not all at one place
-along-east : (a b p : Place) → a .e ≤ p .e → p .e ≤ b .e → a .e < b .e → left-sum a b p ≡ right-sum a b p → Between a b p
+along-east : (a b p : Place) → a .e ≤ p .e → p .e ≤ b .e → a .e < b .e → left-places a b p ≡ right-places a b p → Between a b p
 along-east a b p h k s l = touching a b p (p .e - a .e) (b .e - p .e) (apart (a .e) (b .e) (p .e) h k s) l (parted (a .e) (p .e) h) (whole (a .e) (b .e) (p .e) h k)
   where
     apart : (x y z : ℕ) → x ≤ z → z ≤ y → x < y → 0 < z - x + (y - z)
@@ -162,10 +164,10 @@ along-east a b p h k s l = touching a b p (p .e - a .e) (b .e - p .e) (apart (a 
     whole : (x y z : ℕ) → x ≤ z → z ≤ y → y ≡ x + (z - x) + (y - z)
     whole x y z h k = omega arith
 
-spread : (a b p : Place) → a .e ≤ p .e → p .e ≤ b .e → a .e < b .e → left-sum a b p ≡ right-sum a b p → Touch a b p
+spread : (a b p : Place) → a .e ≤ p .e → p .e ≤ b .e → a .e < b .e → left-places a b p ≡ right-places a b p → Touch a b p
 spread a b p h k s l = between-touch a b p l (along-east a b p h k s l)
 
-pub on-line : (a b p : Place) → Upto a p → Upto p b → left-sum a b p ≡ right-sum a b p → Touch a b p
+pub on-line : (a b p : Place) → Upto a p → Upto p b → left-places a b p ≡ right-places a b p → Touch a b p
 on-line a b p (Upto.west h) (Upto.west k) l = spread a b p (le-of-lt h) (le-of-lt k) (lt-trans h k) l
 on-line a b p (Upto.west h) (Upto.south k m) l = spread a b p (le-of-lt h) (le-of-eq k) (subst (λ (x : ℕ). a .e < x) k h) l
 on-line a b p (Upto.south h m) (Upto.west k) l = spread a b p (le-of-eq h) (le-of-lt k) (subst (λ (x : ℕ). x < b .e) (sym h) k) l
@@ -209,7 +211,7 @@ squeeze a b c d s (Upto.south h m) (Upto.south k j) (Before.south e l) =
     strictly (s .share .i') (s .share .i) (s .share .k') (s .share .k) (a .n) (b .n) (c .n) (d .n)
     (mul-le-mul-left (s .share .i') m) (mul-le-mul-left (s .share .k) j) (mul-lt-mul-of-pos-right l (s .share .some)) (ap (λ (x : ℕ). x * c .n) (s .share .whole)) (s .share .north)
 
-lowest : (a b c d : Place) → Inner a b c d → Upto a b → Upto c d → Upto a c → left-sum a b c ≡ right-sum a b c → Touch a b c
+lowest : (a b c d : Place) → Inner a b c d → Upto a b → Upto c d → Upto a c → left-places a b c ≡ right-places a b c → Touch a b c
 lowest a b c d s h k m l = go (order c b)
   where
     go : Upto c b ⊎ Before b c → Touch a b c
@@ -244,13 +246,7 @@ swap-last : (a b c d : Place) → Inner a b c d → Inner a b d c
 swap-last a b c d s = turn-round d c a b (swap c d a b (turn-round a b c d s))
 
 -- the turn from b by a is the other one
-pub back-left : (a b c : Place) → left-sum b a c ≡ right-sum a b c
-back-left a b c = simp ring
-
-pub back-right : (a b c : Place) → right-sum b a c ≡ left-sum a b c
-back-right a b c = simp ring
-
-back-line : (a b c : Place) → left-sum a b c ≡ right-sum a b c → left-sum b a c ≡ right-sum b a c
+back-line : (a b c : Place) → left-places a b c ≡ right-places a b c → left-places b a c ≡ right-places b a c
 back-line a b c l = back-left a b c ∙ sym l ∙ sym (back-right a b c)
 
 back-in : {a b x : ℕ} → In a b x → In b a x
@@ -261,10 +257,10 @@ back-touch : (a b c : Place) → Touch a b c → Touch b a c
 back-touch a b c t = record { line = back-line a b c (t .line); east = back-in (t .east); north = back-in (t .north) }
 
 record Lines (a b c d : Place) : Type 0 where
-  first : left-sum a b c ≡ right-sum a b c
-  second : left-sum a b d ≡ right-sum a b d
-  third : left-sum c d a ≡ right-sum c d a
-  fourth : left-sum c d b ≡ right-sum c d b
+  first : left-places a b c ≡ right-places a b c
+  second : left-places a b d ≡ right-places a b d
+  third : left-places c d a ≡ right-places c d a
+  fourth : left-places c d b ≡ right-places c d b
 
 -- the lower end of one lies on the other
 pub data Lower (a b c d : Place) : Type 0 where
@@ -324,10 +320,10 @@ level′ l1 r1 l2 r2 l3 r3 l4 r4 f a b (right-left h k) = omega arith
 
 module _ (p1 p2 q1 q2 : Place) where
   abbrev About-q : Type 0
-  About-q = Balance (left-sum q1 q2 p1) (right-sum q1 q2 p1) (left-sum q1 q2 p2) (right-sum q1 q2 p2)
+  About-q = Balance (left-places q1 q2 p1) (right-places q1 q2 p1) (left-places q1 q2 p2) (right-places q1 q2 p2)
 
   abbrev About-p : Type 0
-  About-p = Balance (left-sum p1 p2 q1) (right-sum p1 p2 q1) (left-sum p1 p2 q2) (right-sum p1 p2 q2)
+  About-p = Balance (left-places p1 p2 q1) (right-places p1 p2 q1) (left-places p1 p2 q2) (right-places p1 p2 q2)
 
   inside : Inner p1 p2 q1 q2 → Meets p1 p2 q1 q2
   unfolding flip
@@ -335,12 +331,12 @@ module _ (p1 p2 q1 q2 : Place) where
     where
       about-q : About-q
       about-q =
-          balance (s .share .i') (s .share .i) (left-sum q1 q2 p1) (right-sum q1 q2 p1) (left-sum q1 q2 p2) (right-sum q1 q2 p2) (s .first) (s .second)
+          balance (s .share .i') (s .share .i) (left-places q1 q2 p1) (right-places q1 q2 p1) (left-places q1 q2 p2) (right-places q1 q2 p2) (s .first) (s .second)
           (balanced p1 p2 q1 q2 (s .share))
 
       about-p : About-p
       about-p =
-          balance (s .share .k') (s .share .k) (left-sum p1 p2 q1) (right-sum p1 p2 q1) (left-sum p1 p2 q2) (right-sum p1 p2 q2) (s .third) (s .fourth)
+          balance (s .share .k') (s .share .k) (left-places p1 p2 q1) (right-places p1 p2 q1) (left-places p1 p2 q2) (right-places p1 p2 q2) (s .third) (s .fourth)
           (balanced q1 q2 p1 p2 (flip p1 p2 q1 q2 (s .share)))
 
       go : About-q → About-p → Meets p1 p2 q1 q2
@@ -355,8 +351,8 @@ ends p1 p2 q1 q2 s z =
     ending q1 q2 p1 (s .k') (s .k) (subst (λ (x : ℕ). 0 < x) (s .whole) (s .some))
     (alone (s .i') (s .i) (s .k' + s .k) (p1 .e) (p2 .e) (s .k' * q1 .e + s .k * q2 .e) z (s .whole) (s .east))
     (alone (s .i') (s .i) (s .k' + s .k) (p1 .n) (p2 .n) (s .k' * q1 .n + s .k * q2 .n) z (s .whole) (s .north))
-    (same-factor (s .i') (left-sum q1 q2 p1) (right-sum q1 q2 p1) (above (s .i') (s .i) z (s .some))
-    (one-turn (s .i') (s .i) (left-sum q1 q2 p1) (left-sum q1 q2 p2) (right-sum q1 q2 p1) (right-sum q1 q2 p2) z (balanced p1 p2 q1 q2 s)))
+    (same-factor (s .i') (left-places q1 q2 p1) (right-places q1 q2 p1) (above (s .i') (s .i) z (s .some))
+    (one-turn (s .i') (s .i) (left-places q1 q2 p1) (left-places q1 q2 p2) (right-places q1 q2 p1) (right-places q1 q2 p2) z (balanced p1 p2 q1 q2 s)))
   where
     above : (a b : ℕ) → b ≡ 0 → 0 < a + b → 0 < a
     above a b z h = omega arith
@@ -414,7 +410,7 @@ at-end p1 p2 q1 q2 t = record {
 abbrev mirror : Place → Place
 mirror a = record { e = a .n; n = a .e }
 
-mirror-line : (a b p : Place) → left-sum a b p ≡ right-sum a b p → left-sum (mirror a) (mirror b) (mirror p) ≡ right-sum (mirror a) (mirror b) (mirror p)
+mirror-line : (a b p : Place) → left-places a b p ≡ right-places a b p → left-places (mirror a) (mirror b) (mirror p) ≡ right-places (mirror a) (mirror b) (mirror p)
 mirror-line a b p l = sym l
 
 back-between : (a b p : Place) → Between a b p → Between b a p
@@ -478,11 +474,12 @@ wrong l1 r1 l2 r2 l3 r3 l4 r4 f a b c d = omega arith
 wrong′ : (l1 r1 l2 r2 l3 r3 l4 r4 : ℕ) → l1 + r2 + (l3 + r4) ≡ l4 + r3 + (r1 + l2) → l1 < r1 → r2 < l2 → l3 < r3 → r4 < l4 → 0 < 0
 wrong′ l1 r1 l2 r2 l3 r3 l4 r4 f a b c d = omega arith
 
-cross : (p1 p2 q1 q2 : Place) → right-sum q1 q2 p1 < left-sum q1 q2 p1 → left-sum q1 q2 p2 < right-sum q1 q2 p2 → left-sum p1 p2 q1 < right-sum p1 p2 q1 → right-sum p1 p2 q2 < left-sum p1 p2 q2 → Share p1 p2 q1 q2
+cross : (p1 p2 q1 q2 : Place) → right-places q1 q2 p1 < left-places q1 q2 p1 → left-places q1 q2 p2 < right-places q1 q2 p2 →
+    left-places p1 p2 q1 < right-places p1 p2 q1 → right-places p1 p2 q2 < left-places p1 p2 q2 → Share p1 p2 q1 q2
 cross p1 p2 q1 q2 a b c d =
-    crossing p1 p2 q1 q2 (left-sum q1 q2 p1 - right-sum q1 q2 p1) (right-sum q1 q2 p2 - left-sum q1 q2 p2) (right-sum p1 p2 q1 - left-sum p1 p2 q1) (left-sum p1 p2 q2 - right-sum p1 p2 q2)
-    (above (right-sum q1 q2 p1) (left-sum q1 q2 p1) a) (excess (right-sum q1 q2 p1) (left-sum q1 q2 p1) a) (excess (left-sum q1 q2 p2) (right-sum q1 q2 p2) b)
-    (excess (left-sum p1 p2 q1) (right-sum p1 p2 q1) c) (excess (right-sum p1 p2 q2) (left-sum p1 p2 q2) d)
+    crossing p1 p2 q1 q2 (left-places q1 q2 p1 - right-places q1 q2 p1) (right-places q1 q2 p2 - left-places q1 q2 p2) (right-places p1 p2 q1 - left-places p1 p2 q1) (left-places p1 p2 q2 - right-places p1 p2 q2)
+    (above (right-places q1 q2 p1) (left-places q1 q2 p1) a) (excess (right-places q1 q2 p1) (left-places q1 q2 p1) a) (excess (left-places q1 q2 p2) (right-places q1 q2 p2) b)
+    (excess (left-places p1 p2 q1) (right-places p1 p2 q1) c) (excess (right-places p1 p2 q2) (left-places p1 p2 q2) d)
 
 as-less : (x y u v : ℕ) → u ≡ x → v ≡ y → x < y → u < v
 as-less x y u v e f h = subst (λ (t : ℕ). t < v) (sym e) (subst (λ (t : ℕ). x < t) (sym f) h)
@@ -495,8 +492,8 @@ meets-shared p1 p2 q1 q2 (Meets.at-q2 t) = flip q1 q2 p1 p2 (swap-share q2 q1 p1
 meets-shared p1 p2 q1 q2 (Meets.across (Split.left-right a b) (Split.right-left c d)) = cross p1 p2 q1 q2 a b c d
 meets-shared p1 p2 q1 q2 (Meets.across (Split.right-left a b) (Split.left-right c d)) =
     swap-share p2 p1 q1 q2 (cross p2 p1 q1 q2 b a
-    (as-less (right-sum p1 p2 q1) (left-sum p1 p2 q1) (left-sum p2 p1 q1) (right-sum p2 p1 q1) (back-left p1 p2 q1) (back-right p1 p2 q1) c)
-    (as-less (left-sum p1 p2 q2) (right-sum p1 p2 q2) (right-sum p2 p1 q2) (left-sum p2 p1 q2) (back-right p1 p2 q2) (back-left p1 p2 q2) d))
+    (as-less (right-places p1 p2 q1) (left-places p1 p2 q1) (left-places p2 p1 q1) (right-places p2 p1 q1) (back-left p1 p2 q1) (back-right p1 p2 q1) c)
+    (as-less (left-places p1 p2 q2) (right-places p1 p2 q2) (right-places p2 p1 q2) (left-places p2 p1 q2) (back-right p1 p2 q2) (back-left p1 p2 q2) d))
 meets-shared p1 p2 q1 q2 (Meets.across (Split.left-right a b) (Split.left-right c d)) = absurd (lt-irrefl 0 (wrong _ _ _ _ _ _ _ _ (four-turns p1 p2 q1 q2) a b c d))
 meets-shared p1 p2 q1 q2 (Meets.across (Split.right-left a b) (Split.right-left c d)) = absurd (lt-irrefl 0 (wrong′ _ _ _ _ _ _ _ _ (four-turns p1 p2 q1 q2) a b c d))
 

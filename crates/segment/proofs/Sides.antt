@@ -1,17 +1,18 @@
 -- Two segments do not meet where one lies on one side of the other's line. Assumes nothing.
 use mathlib.Core.Path.{_≡_, refl, sym, ap, _∙_}
 use mathlib.Core.Logic.{_⊎_, inl, inr}
-use mathlib.Core.Bool.{Bool, true, false, cond, _&&_, false≢true}
+use mathlib.Core.Bool.{Bool, true, false, cond, _&&_, false≢true, and-eq-true-iff}
+use mathlib.Mathlib.Data.Bool.Basic.{and-elim-left, and-elim-right}
 use Prim.Native.Nat.{ℕ, _+_, _*_, _<_}
 use native.Mathlib.Nat.{add-comm, le-of-lt, lt-irrefl, mul-lt-mul-of-pos-right}
 use native.Mathlib.Omega.{arith}
 use Rattle.plane.specs.declared.PlanarPoint.{PlanarPoint}
 use Rattle.turn.specs.declared.Turn.{Turn}
 use Rattle.turn.specs.declared.Turn.the-variants.{Unknown}
-use Rattle.turn.specs.Turns.{Doubles, Finite, turn, by-sums, finite-point, left-sum, right-sum, is-left, is-right, apart}
-use Rattle.turn.proofs.Places.{and-both, all-finite}
+use Rattle.turn.specs.Turns.{DoublePoint, Finite, turn, by-sums, finite-point, left-sum, right-sum, is-left, is-right, apart, place-at}
+use Rattle.turn.proofs.Places.{all-finite}
 use Rattle.segment.specs.Segments.{segments-meet}
-use Rattle.segment.specs.Meeting.{place-at, one-side, OneSideNoMeet}
+use Rattle.segment.specs.Meeting.{one-side, OneSideNoMeet}
 use Rattle.segment.proofs.Meet.{balanced}
 use Rattle.segment.proofs.Shared.{over, times, zero-or}
 use Rattle.turn.proofs.Places.{or-either}
@@ -42,7 +43,7 @@ pub record Ends (p1 p2 q1 q2 : PlanarPoint) : Type 0 where
   pub q2-finite : Finite q2
 
 pub ends-finite :
-    (p1 p2 q1 q2 : PlanarPoint) → Doubles p1 → Doubles p2 → Doubles q1 → Doubles q2 → Aside (turn q1 q2 p1) → Aside (turn q1 q2 p2) → Ends p1 p2 q1 q2
+    (p1 p2 q1 q2 : PlanarPoint) → DoublePoint p1 → DoublePoint p2 → DoublePoint q1 → DoublePoint q2 → Aside (turn q1 q2 p1) → Aside (turn q1 q2 p2) → Ends p1 p2 q1 q2
 ends-finite p1 p2 q1 q2 f1 f2 g1 g2 s t =
     let x = all-finite q1 q2 p1 (told-finite q1 q2 p1 s) in
     let y = all-finite q1 q2 p2 (told-finite q1 q2 p2 t) in
@@ -56,8 +57,8 @@ ends-finite p1 p2 q1 q2 f1 f2 g1 g2 s t =
 pub sides : (d e : Turn) → apart d e ≡ true → Aside d × Aside e
 unfolding apart
 sides d e h = elim (or-either (is-left d && is-right e) (is-right d && is-left e) h) [
-  | inl x ↦ (inl (and-both (is-left d) (is-right e) x .0), inr (and-both (is-left d) (is-right e) x .1))
-  | inr x ↦ (inr (and-both (is-right d) (is-left e) x .0), inl (and-both (is-right d) (is-left e) x .1))
+  | inl x ↦ (inl (and-elim-left (is-left d) (is-right e) x), inr (and-elim-right (is-left d) (is-right e) x))
+  | inr x ↦ (inr (and-elim-left (is-right d) (is-left e) x), inl (and-elim-right (is-right d) (is-left e) x))
 ]
 
 -- ---- two turns to one side do not balance
@@ -73,7 +74,7 @@ uneven u v l r l′ r′ w h k e = go (zero-or u)
         over v u l′ r′ l r (mul-lt-mul-of-pos-right k (later u v z w)) (times u r l (le-of-lt h))
         (add-comm (v * l′) (u * l) ∙ e ∙ add-comm (u * r) (v * r′))
 
-module _ (p1 p2 q1 q2 : PlanarPoint) (f1 : Doubles p1) (f2 : Doubles p2) (g1 : Doubles q1) (g2 : Doubles q2) (m : segments-meet p1 p2 q1 q2 ≡ true) where
+module _ (p1 p2 q1 q2 : PlanarPoint) (f1 : DoublePoint p1) (f2 : DoublePoint p2) (g1 : DoublePoint q1) (g2 : DoublePoint q2) (m : segments-meet p1 p2 q1 q2 ≡ true) where
   lefts : is-left (turn q1 q2 p1) ≡ true → is-left (turn q1 q2 p2) ≡ true → 0 < 0
   lefts h k =
       let f = ends-finite p1 p2 q1 q2 f1 f2 g1 g2 (inl h) (inl k) in
@@ -95,11 +96,11 @@ module _ (p1 p2 q1 q2 : PlanarPoint) (f1 : Doubles p1) (f2 : Doubles p2) (g1 : D
   none : one-side (turn q1 q2 p1) (turn q1 q2 p2) ≡ true → 0 < 0
   unfolding one-side
   none h = elim (or-either (is-left (turn q1 q2 p1) && is-left (turn q1 q2 p2)) (is-right (turn q1 q2 p1) && is-right (turn q1 q2 p2)) h) [
-    | inl x ↦ let y = and-both (is-left (turn q1 q2 p1)) (is-left (turn q1 q2 p2)) x in lefts (y .0) (y .1)
-    | inr x ↦ let y = and-both (is-right (turn q1 q2 p1)) (is-right (turn q1 q2 p2)) x in rights (y .0) (y .1)
+    | inl x ↦ let y = and-eq-true-iff (is-left (turn q1 q2 p1)) (is-left (turn q1 q2 p2)) .0 x in lefts (y .0) (y .1)
+    | inr x ↦ let y = and-eq-true-iff (is-right (turn q1 q2 p1)) (is-right (turn q1 q2 p2)) .0 x in rights (y .0) (y .1)
   ]
 
-module _ (p1 p2 q1 q2 : PlanarPoint) (f1 : Doubles p1) (f2 : Doubles p2) (g1 : Doubles q1) (g2 : Doubles q2) where
+module _ (p1 p2 q1 q2 : PlanarPoint) (f1 : DoublePoint p1) (f2 : DoublePoint p2) (g1 : DoublePoint q1) (g2 : DoublePoint q2) where
   beside-second : one-side (turn q1 q2 p1) (turn q1 q2 p2) ≡ true → segments-meet p1 p2 q1 q2 ≡ false
   beside-second h = go (segments-meet p1 p2 q1 q2) refl
     where

@@ -1,8 +1,9 @@
 -- Two closed segments with finite ends are reported as meeting if and only if they share a point. Assumes nothing.
 use mathlib.Core.Path.{_≡_, refl, sym, ap, _∙_, subst}
-use mathlib.Core.Logic.{_⊎_, inl, inr}
-use mathlib.Core.Bool.{Bool, true, false, cond, _&&_, _||_, false≢true}
-use Prim.Native.Nat.{ℕ, _-_, _≤_, _<_}
+use mathlib.Core.Logic.{inl, inr}
+use mathlib.Core.Bool.{Bool, true, false, cond, _&&_, _||_, false≢true, and-eq-true-iff}
+use mathlib.Mathlib.Data.Bool.Basic.{or-inl, or-inr, and-intro}
+use Prim.Native.Nat.{ℕ, _≤_, _<_}
 use native.Mathlib.Nat.{lt-irrefl}
 use native.Mathlib.Omega.{arith}
 use lib.Dec.{T, ltb}
@@ -13,25 +14,14 @@ use Rattle.math.proofs.Order.{itself}
 use Rattle.plane.specs.declared.PlanarPoint.{PlanarPoint}
 use Rattle.turn.specs.declared.Turn.{Turn}
 use Rattle.turn.specs.declared.Turn.the-variants.{Unknown}
-use Rattle.turn.specs.Turns.{place, turn, by-sums, finite-point, Finite, is-left, is-right, is-straight, apart}
+use Rattle.turn.specs.Turns.{place, turn, by-sums, finite-point, Finite, is-left, is-right, is-straight, apart, place-at, left-places, right-places}
 use Rattle.turn.specs.Turns as turns
 use Rattle.turn.proofs.Sums.{Order, less, equal, more, order, tells-left, tells-right, tells-straight}
-use Rattle.turn.proofs.Places.{and-both, or-either}
+use Rattle.turn.proofs.Places.{or-either}
 use Rattle.segment.specs.Segments.{within-box, touches, meet-by, segments-meet}
-use Rattle.segment.specs.Meeting.{Shared, place-at, MeetIffShared}
-use Rattle.segment.proofs.Meet.{left-sum, right-sum}
+use Rattle.segment.specs.Meeting.{Shared, MeetIffShared}
 use Rattle.segment.proofs.Shared.{In, up, down, Touch, Split, left-right, right-left, Meets, across, at-p1, at-p2, at-q1, at-q2, shared-meets, meets-shared}
 use Rattle.segment.proofs.Floats.{Number, east-number, north-number, lt-place, le-places}
-
-pub or-left : (a b : Bool) → a ≡ true → (a || b) ≡ true
-or-left a b e = ap (λ (x : Bool). x || b) e
-
-or-right : (a b : Bool) → b ≡ true → (a || b) ≡ true
-or-right true b e = refl
-or-right false b e = e
-
-pub and-true : (a b : Bool) → a ≡ true → b ≡ true → (a && b) ≡ true
-and-true a b e f = ap (λ (x : Bool). x && b) e ∙ f
 
 -- ---- one axis
 not-nan : (x : Float) → x ≡ nan → finite x ≡ true → ⊥
@@ -110,9 +100,9 @@ module _ (a b p : PlanarPoint) (fa : Finite a) (fb : Finite b) (fp : Finite p) w
   box-in : within-box a b p ≡ true → In (place (a .east)) (place (b .east)) (place (p .east)) × In (place (a .north)) (place (b .north)) (place (p .north))
   unfolding within-box
   box-in h =
-      let x = and-both (le (fmin (a .east) (b .east)) (p .east)) (le (p .east) (fmax (a .east) (b .east)) && (le (fmin (a .north) (b .north)) (p .north) && le (p .north) (fmax (a .north) (b .north)))) h in
-      let y = and-both (le (p .east) (fmax (a .east) (b .east))) (le (fmin (a .north) (b .north)) (p .north) && le (p .north) (fmax (a .north) (b .north))) (x .1) in
-      let z = and-both (le (fmin (a .north) (b .north)) (p .north)) (le (p .north) (fmax (a .north) (b .north))) (y .1) in (
+      let x = and-eq-true-iff (le (fmin (a .east) (b .east)) (p .east)) (le (p .east) (fmax (a .east) (b .east)) && (le (fmin (a .north) (b .north)) (p .north) && le (p .north) (fmax (a .north) (b .north)))) .0 h in
+      let y = and-eq-true-iff (le (p .east) (fmax (a .east) (b .east))) (le (fmin (a .north) (b .north)) (p .north) && le (p .north) (fmax (a .north) (b .north))) .0 (x .1) in
+      let z = and-eq-true-iff (le (fmin (a .north) (b .north)) (p .north)) (le (p .north) (fmax (a .north) (b .north))) .0 (y .1) in (
         axis-in (a .east) (b .east) (p .east) (east-number a fa) (east-number b fb) (east-number p fp) (x .0) (y .0),
         axis-in (a .north) (b .north) (p .north) (north-number a fa) (north-number b fb) (north-number p fp) (z .0) (z .1),
       )
@@ -120,9 +110,9 @@ module _ (a b p : PlanarPoint) (fa : Finite a) (fb : Finite b) (fp : Finite p) w
   box-out : In (place (a .east)) (place (b .east)) (place (p .east)) → In (place (a .north)) (place (b .north)) (place (p .north)) → within-box a b p ≡ true
   unfolding within-box
   box-out i j =
-      and-true _ _ (axis-low (a .east) (b .east) (p .east) (east-number a fa) (east-number b fb) (east-number p fp) i)
-      (and-true _ _ (axis-high (a .east) (b .east) (p .east) (east-number a fa) (east-number b fb) (east-number p fp) i)
-      (and-true _ _ (axis-low (a .north) (b .north) (p .north) (north-number a fa) (north-number b fb) (north-number p fp) j)
+      and-intro (axis-low (a .east) (b .east) (p .east) (east-number a fa) (east-number b fb) (east-number p fp) i)
+      (and-intro (axis-high (a .east) (b .east) (p .east) (east-number a fa) (east-number b fb) (east-number p fp) i)
+      (and-intro (axis-low (a .north) (b .north) (p .north) (north-number a fa) (north-number b fb) (north-number p fp) j)
       (axis-high (a .north) (b .north) (p .north) (north-number a fa) (north-number b fb) (north-number p fp) j)))
 
 -- ---- turns
@@ -168,23 +158,23 @@ is-straight-of l r h = ap is-straight (tells-straight l r h)
 split-in : (l r l′ r′ : ℕ) → apart (by-sums l r) (by-sums l′ r′) ≡ true → Split l r l′ r′
 unfolding apart
 split-in l r l′ r′ h = elim (or-either (is-left (by-sums l r) && is-right (by-sums l′ r′)) (is-right (by-sums l r) && is-left (by-sums l′ r′)) h) [
-  | inl e ↦ let b = and-both (is-left (by-sums l r)) (is-right (by-sums l′ r′)) e in left-right (left-is l r (b .0)) (right-is l′ r′ (b .1))
-  | inr e ↦ let b = and-both (is-right (by-sums l r)) (is-left (by-sums l′ r′)) e in right-left (right-is l r (b .0)) (left-is l′ r′ (b .1))
+  | inl e ↦ let b = and-eq-true-iff (is-left (by-sums l r)) (is-right (by-sums l′ r′)) .0 e in left-right (left-is l r (b .0)) (right-is l′ r′ (b .1))
+  | inr e ↦ let b = and-eq-true-iff (is-right (by-sums l r)) (is-left (by-sums l′ r′)) .0 e in right-left (right-is l r (b .0)) (left-is l′ r′ (b .1))
 ]
 
 split-out : (l r l′ r′ : ℕ) → Split l r l′ r′ → apart (by-sums l r) (by-sums l′ r′) ≡ true
 unfolding apart
-split-out l r l′ r′ (left-right h k) = or-left _ _ (and-true _ _ (is-left-of l r h) (is-right-of l′ r′ k))
-split-out l r l′ r′ (right-left h k) = or-right (is-left (by-sums l r) && is-right (by-sums l′ r′)) (is-right (by-sums l r) && is-left (by-sums l′ r′)) (and-true _ _ (is-right-of l r h) (is-left-of l′ r′ k))
+split-out l r l′ r′ (left-right h k) = or-inl _ _ (and-intro (is-left-of l r h) (is-right-of l′ r′ k))
+split-out l r l′ r′ (right-left h k) = or-inr (is-left (by-sums l r) && is-right (by-sums l′ r′)) (is-right (by-sums l r) && is-left (by-sums l′ r′)) (and-intro (is-right-of l r h) (is-left-of l′ r′ k))
 
 abbrev pub ls : PlanarPoint → PlanarPoint → PlanarPoint → ℕ
-ls a b c = left-sum (place-at a) (place-at b) (place-at c)
+ls a b c = left-places (place-at a) (place-at b) (place-at c)
 
 abbrev pub rs : PlanarPoint → PlanarPoint → PlanarPoint → ℕ
-rs a b c = right-sum (place-at a) (place-at b) (place-at c)
+rs a b c = right-places (place-at a) (place-at b) (place-at c)
 
 all-finite : (a b c : PlanarPoint) → Finite a → Finite b → Finite c → (finite-point a && (finite-point b && finite-point c)) ≡ true
-all-finite a b c fa fb fc = and-true _ _ (fa .both-finite) (and-true _ _ (fb .both-finite) (fc .both-finite))
+all-finite a b c fa fb fc = and-intro (fa .both-finite) (and-intro (fb .both-finite) (fc .both-finite))
 
 pub turn-is : (a b c : PlanarPoint) → Finite a → Finite b → Finite c → turn a b c ≡ by-sums (ls a b c) (rs a b c)
 unfolding turn turns.left-sum turns.right-sum
@@ -194,13 +184,13 @@ module _ (a b p : PlanarPoint) (fa : Finite a) (fb : Finite b) (fp : Finite p) w
   pub touch-in : touches (by-sums (ls a b p) (rs a b p)) a b p ≡ true → Touch (place-at a) (place-at b) (place-at p)
   unfolding touches
   touch-in h =
-      let x = and-both (is-straight (by-sums (ls a b p) (rs a b p))) (within-box a b p) h in
+      let x = and-eq-true-iff (is-straight (by-sums (ls a b p) (rs a b p))) (within-box a b p) .0 h in
       let y = box-in a b p fa fb fp (x .1) in
       record { line = straight-is (ls a b p) (rs a b p) (x .0); east = y .0; north = y .1 }
 
   pub touch-out : Touch (place-at a) (place-at b) (place-at p) → touches (by-sums (ls a b p) (rs a b p)) a b p ≡ true
   unfolding touches
-  touch-out t = and-true _ _ (is-straight-of (ls a b p) (rs a b p) (t .line)) (box-out a b p fa fb fp (t .east) (t .north))
+  touch-out t = and-intro (is-straight-of (ls a b p) (rs a b p) (t .line)) (box-out a b p fa fb fp (t .east) (t .north))
 
 -- ---- the theorem
 module _ (p1 p2 q1 q2 : PlanarPoint) (f1 : Finite p1) (f2 : Finite p2) (g1 : Finite q1) (g2 : Finite q2) where
@@ -227,7 +217,7 @@ module _ (p1 p2 q1 q2 : PlanarPoint) (f1 : Finite p1) (f2 : Finite p2) (g1 : Fin
   pub meets-of : segments-meet p1 p2 q1 q2 ≡ true → Meets (place-at p1) (place-at p2) (place-at q1) (place-at q2)
   unfolding meet-by
   meets-of h = elim (or-either (apart d1 d2 && apart d3 d4) (touches d1 q1 q2 p1 || (touches d2 q1 q2 p2 || (touches d3 p1 p2 q1 || touches d4 p1 p2 q2))) (sym meet-is ∙ h)) [
-    | inl e ↦ let b = and-both (apart d1 d2) (apart d3 d4) e in across (split-in _ _ _ _ (b .0)) (split-in _ _ _ _ (b .1))
+    | inl e ↦ let b = and-eq-true-iff (apart d1 d2) (apart d3 d4) .0 e in across (split-in _ _ _ _ (b .0)) (split-in _ _ _ _ (b .1))
     | inr e ↦ elim (or-either (touches d1 q1 q2 p1) (touches d2 q1 q2 p2 || (touches d3 p1 p2 q1 || touches d4 p1 p2 q2)) e) [
       | inl t ↦ at-p1 (touch-in q1 q2 p1 g1 g2 f1 t)
       | inr t ↦ elim (or-either (touches d2 q1 q2 p2) (touches d3 p1 p2 q1 || touches d4 p1 p2 q2) t) [
@@ -242,11 +232,11 @@ module _ (p1 p2 q1 q2 : PlanarPoint) (f1 : Finite p1) (f2 : Finite p2) (g1 : Fin
 
   meets-by : Meets (place-at p1) (place-at p2) (place-at q1) (place-at q2) → meet-by d1 d2 d3 d4 p1 p2 q1 q2 ≡ true
   unfolding meet-by
-  meets-by (across s t) = or-left _ _ (and-true _ _ (split-out _ _ _ _ s) (split-out _ _ _ _ t))
-  meets-by (at-p1 t) = or-right (apart d1 d2 && apart d3 d4) _ (or-left (touches d1 q1 q2 p1) _ (touch-out q1 q2 p1 g1 g2 f1 t))
-  meets-by (at-p2 t) = or-right (apart d1 d2 && apart d3 d4) _ (or-right (touches d1 q1 q2 p1) _ (or-left (touches d2 q1 q2 p2) _ (touch-out q1 q2 p2 g1 g2 f2 t)))
-  meets-by (at-q1 t) = or-right (apart d1 d2 && apart d3 d4) _ (or-right (touches d1 q1 q2 p1) _ (or-right (touches d2 q1 q2 p2) _ (or-left (touches d3 p1 p2 q1) _ (touch-out p1 p2 q1 f1 f2 g1 t))))
-  meets-by (at-q2 t) = or-right (apart d1 d2 && apart d3 d4) _ (or-right (touches d1 q1 q2 p1) _ (or-right (touches d2 q1 q2 p2) _ (or-right (touches d3 p1 p2 q1) _ (touch-out p1 p2 q2 f1 f2 g2 t))))
+  meets-by (across s t) = or-inl _ _ (and-intro (split-out _ _ _ _ s) (split-out _ _ _ _ t))
+  meets-by (at-p1 t) = or-inr (apart d1 d2 && apart d3 d4) _ (or-inl (touches d1 q1 q2 p1) _ (touch-out q1 q2 p1 g1 g2 f1 t))
+  meets-by (at-p2 t) = or-inr (apart d1 d2 && apart d3 d4) _ (or-inr (touches d1 q1 q2 p1) _ (or-inl (touches d2 q1 q2 p2) _ (touch-out q1 q2 p2 g1 g2 f2 t)))
+  meets-by (at-q1 t) = or-inr (apart d1 d2 && apart d3 d4) _ (or-inr (touches d1 q1 q2 p1) _ (or-inr (touches d2 q1 q2 p2) _ (or-inl (touches d3 p1 p2 q1) _ (touch-out p1 p2 q1 f1 f2 g1 t))))
+  meets-by (at-q2 t) = or-inr (apart d1 d2 && apart d3 d4) _ (or-inr (touches d1 q1 q2 p1) _ (or-inr (touches d2 q1 q2 p2) _ (or-inr (touches d3 p1 p2 q1) _ (touch-out p1 p2 q2 f1 f2 g2 t))))
 
   pub of-meets : Meets (place-at p1) (place-at p2) (place-at q1) (place-at q2) → segments-meet p1 p2 q1 q2 ≡ true
   of-meets m = meet-is ∙ meets-by m

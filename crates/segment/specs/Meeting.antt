@@ -5,18 +5,10 @@ use mathlib.Core.Bool.{Bool, true, false, _&&_, _||_}
 use Prim.Native.Nat.{ℕ, _+_, _*_, _<_}
 use Rattle.plane.specs.declared.PlanarPoint.{PlanarPoint}
 use Rattle.turn.specs.declared.Turn.{Turn}
-use Rattle.turn.specs.Turns.{place, turn, is-left, is-right, Doubles, Finite}
+use Rattle.turn.specs.Turns.{Place, place-at, turn, is-left, is-right, DoublePoint, Finite}
 use Rattle.segment.specs.Segments.{touches, segments-meet}
 
 -- ---- a shared point
-
--- a point by its two places: whole numbers of units of the smallest double, counted from a corner left of and below every double
-pub record Place : Type 0 where
-  pub e : ℕ
-  pub n : ℕ
-
-abbrev pub place-at : PlanarPoint → Place
-place-at p = record { e = place (p .east); n = place (p .north) }
 
 -- A point that lies on both closed segments. A point of the segment from p1 to p2 is a mean of its ends: with the weights i' and i it is
 -- (i' p1 + i p2) / (i' + i). It is p1 where i is 0 and p2 where i' is 0. A point of the one from q1 to q2 is (k' q1 + k q2) / (k' + k).
@@ -72,8 +64,8 @@ one-side d e = (is-left d && is-left e) || (is-right d && is-right e)
 -- THE STATEMENT: two segments do not meet where one lies on one side of the other's line, for all doubles, infinite and NaN too
 pub record OneSideNoMeet : Type 0 where
   pub beside-second :
-      (p1 p2 q1 q2 : PlanarPoint) → Doubles p1 → Doubles p2 → Doubles q1 → Doubles q2 →
+      (p1 p2 q1 q2 : PlanarPoint) → DoublePoint p1 → DoublePoint p2 → DoublePoint q1 → DoublePoint q2 →
       one-side (turn q1 q2 p1) (turn q1 q2 p2) ≡ true → segments-meet p1 p2 q1 q2 ≡ false
   pub beside-first :
-      (p1 p2 q1 q2 : PlanarPoint) → Doubles p1 → Doubles p2 → Doubles q1 → Doubles q2 →
+      (p1 p2 q1 q2 : PlanarPoint) → DoublePoint p1 → DoublePoint p2 → DoublePoint q1 → DoublePoint q2 →
       one-side (turn p1 p2 q1) (turn p1 p2 q2) ≡ true → segments-meet p1 p2 q1 q2 ≡ false

@@ -1,8 +1,10 @@
-// Segments of the plane: whether two of them meet or fold back, and the nearest point of one.
+// Segments of the plane: whether two of them meet or fold back, a test of their boxes that they do not meet, and the nearest point of one.
 ghost use mathlib.Core.Path.{_≡_};
 ghost use Rattle.turn.specs.Turns;
+ghost use Rattle.turn.specs.Turns.{DoublePoint};
 ghost use Rattle.segment.specs.Segments;
 ghost use Rattle.segment.specs.Meeting;
+ghost use Rattle.segment.specs.Boxes;
 use plane::PlanarPoint;
 use turn::Turn;
 
@@ -108,4 +110,51 @@ pub fn closest_on_segment(p: PlanarPoint, a: PlanarPoint, b: PlanarPoint) -> Pla
     let squared = plane::dot(ab, ab);
     let t = math::clamp(plane::dot(plane::sub(p, a), ab) / squared);
     plane::choose(squared <= 0.0, a, along(a, ab, t))
+}
+
+// ---- boxes
+
+// The corners of the box of the segment from a to b.
+pub fn low(a: PlanarPoint, b: PlanarPoint) -> PlanarPoint
+    ensures { λ r. ⌜ r ≡ Boxes.low a b ⌝ }
+    ensures { λ r. ⌜ DoublePoint a ⌝ }
+    ensures { λ r. ⌜ DoublePoint b ⌝ }
+{
+    PlanarPoint {
+        east: math::choose(a.east < b.east, a.east, b.east),
+        north: math::choose(a.north < b.north, a.north, b.north),
+    }
+}
+
+pub fn high(a: PlanarPoint, b: PlanarPoint) -> PlanarPoint
+    ensures { λ r. ⌜ r ≡ Boxes.high a b ⌝ }
+{
+    PlanarPoint {
+        east: math::choose(b.east < a.east, a.east, b.east),
+        north: math::choose(b.north < a.north, a.north, b.north),
+    }
+}
+
+// Whether the segment from p to q lies beside the box from l to h.
+pub(crate) fn beside(l: PlanarPoint, h: PlanarPoint, p: PlanarPoint, q: PlanarPoint) -> bool
+    ensures { λ r. ⌜ r ≡ Boxes.beside l h p q ⌝ }
+{
+    if math::choose(q.east < p.east, p.east, q.east) < l.east {
+        return true;
+    }
+    if h.east < math::choose(p.east < q.east, p.east, q.east) {
+        return true;
+    }
+    if math::choose(q.north < p.north, p.north, q.north) < l.north {
+        return true;
+    }
+    h.north < math::choose(p.north < q.north, p.north, q.north)
+}
+
+// Whether the segment from p to q is passed over: it lies beside the box from l to h, so a segment that has this box does not meet it.
+pub fn passed_over(l: PlanarPoint, h: PlanarPoint, p: PlanarPoint, q: PlanarPoint) -> bool
+    ensures { λ r. ⌜ r ≡ Boxes.beside l h p q ⌝ }
+    ensures { λ r. ⌜ Boxes.PassedOver r l h p q ⌝ }
+{
+    beside(l, h, p, q)
 }

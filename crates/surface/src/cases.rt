@@ -1,7 +1,7 @@
 // The cases of each function.
-use crate::told;
-use polygon::Outline;
-use polygon::store;
+use crate::shown;
+use outline::Outline;
+use outline::store;
 
 // A square of side 10, a hole in it, and one that leaves it.
 const SQUARE: [f64; 8] = [0.0, 0.0, 10.0, 0.0, 10.0, 10.0, 0.0, 10.0];
@@ -22,10 +22,10 @@ pub(crate) fn square(n: usize, x: f64) -> Outline {
 }
 
 fn write(name: &[u8], n: usize, out: &mut [f64]) {
-    let r = lent::write_outline(&SQUARE, n, out);
-    told::refusal(name, r);
-    told::numbers(out);
-    told::line_end();
+    let r = outline_lent::write_outline(&SQUARE, n, out);
+    shown::refusal(name, r);
+    shown::numbers(out);
+    shown::line_end();
 }
 
 // Lent output of nine, eight and seven numbers, each 7 before.
@@ -55,7 +55,7 @@ pub(crate) fn writes() {
 }
 
 fn alone(name: &[u8], n: usize, x: f64) {
-    told::region(name, regions::without_holes(square(n, x)));
+    shown::region(name, region_new::without_holes(square(n, x)));
 }
 
 pub(crate) fn single() {
@@ -67,20 +67,20 @@ pub(crate) fn single() {
 
 // Flat numbers, hole k from 64 k on: the first two have these.
 fn flat(hole: &[f64]) -> [f64; 576] {
-    let mut qs = [0.0; 576];
-    lent::write_numbers(hole, hole.len(), &mut qs);
-    lent::write_numbers(hole, hole.len(), &mut qs[64..]);
-    qs
+    let mut hs = [0.0; 576];
+    outline_lent::write_numbers(hole, hole.len(), &mut hs);
+    outline_lent::write_numbers(hole, hole.len(), &mut hs[64..]);
+    hs
 }
 
 fn with_holes<'a>(name: &'a [u8], n: usize, hole: &'a [f64], cs: &'a [usize]) {
-    let qs = flat(hole);
-    told::region(name, regiongiven::region_given(square(n, 10.0), &qs, cs));
+    let hs = flat(hole);
+    shown::region(name, region_new::region_given(square(n, 10.0), &hs, cs));
 }
 
 // Numbers for one hole only.
 fn with_few<'a>(name: &'a [u8], cs: &'a [usize]) {
-    told::region(name, regiongiven::region_given(square(4, 10.0), &HOLE, cs));
+    shown::region(name, region_new::region_given(square(4, 10.0), &HOLE, cs));
 }
 
 pub(crate) fn given() {
@@ -102,15 +102,15 @@ pub(crate) fn given() {
 fn outer_of<'a>(name: &'a [u8], n: usize, cs: &'a [usize], h: usize) {
     let held = square(n, 10.0);
     let ring = held.points;
-    let qs = flat(&HOLE);
-    told::outline(name, regionreaders::outer(&ring, n, &qs, cs, h));
+    let hs = flat(&HOLE);
+    shown::outline(name, region_ask::outer(&ring, n, &hs, cs, h));
 }
 
 fn hole_of<'a>(name: &'a [u8], cs: &'a [usize], h: usize, k: usize) {
     let held = square(4, 10.0);
     let ring = held.points;
-    let qs = flat(&HOLE);
-    told::outline(name, regionreaders::hole(&ring, 4, &qs, cs, h, k));
+    let hs = flat(&HOLE);
+    shown::outline(name, region_ask::hole(&ring, 4, &hs, cs, h, k));
 }
 
 pub(crate) fn read() {

@@ -1,8 +1,8 @@
 // Public functions that no other program calls, or never with bad input and short output, on drawn cases. A line has the case, the
 // refusal's number with the ring and the whole numbers that it carries, counts, and numbers by their bits.
 mod cases;
+mod shown;
 mod stream;
-mod told;
 
 fn main() {
     cases::writes();

@@ -1,30 +1,30 @@
 // Job lines: the stream with too little memory and too little output, a line read to memory that is too short, and an answer that is
 // no shape.
 use crate::cases;
-use crate::told;
+use crate::shown;
 use error::Refusal;
+use job_stream::Outcome;
 use region::Region;
 use region::RegionOffset;
-use streaming::Outcome;
 
 // How the call ended, how much of the block is taken, how much of a cut line is held, and how much of the output is used.
 fn fed(name: &[u8], outcome: Outcome, taken: usize, count: usize, used: usize) {
-    told::refusal(name, outcome.refusal());
-    told::whole(taken);
-    told::whole(count);
-    told::whole(used);
-    told::line_end();
+    shown::refusal(name, outcome.refusal());
+    shown::whole(taken);
+    shown::whole(count);
+    shown::whole(used);
+    shown::line_end();
 }
 
 // Two empty lines and a byte of a third.
 fn feed<'a>(name: &'a [u8], held: &'a mut [u8], count: usize, out: &'a mut [u8]) {
-    let f = wire::feed(b"\n\ni", held, count, out);
+    let f = job_lines::feed(b"\n\ni", held, count, out);
     let outcome = f.outcome;
     fed(name, outcome, f.taken, f.count, f.used);
 }
 
 fn finish<'a>(name: &'a [u8], held: &'a [u8], count: usize, out: &'a mut [u8]) {
-    let l = wire::finish(held, count, out);
+    let l = job_lines::finish(held, count, out);
     let outcome = l.outcome;
     fed(name, outcome, 0, 0, l.used);
 }
@@ -91,15 +91,15 @@ pub(crate) fn streams() {
 
 // What is read, and the memory afterwards.
 fn parse<'a>(name: &'a [u8], line: &'a [u8], lengths: &'a mut [usize], ps: &'a mut [f64]) {
-    let p = reading::parse_job(line, lengths, ps);
+    let p = format_job::parse_job(line, lengths, ps);
     let refusal = p.refusal;
-    told::refusal(name, refusal);
-    told::number(p.distance);
-    told::whole(p.rings);
-    told::whole(p.count);
-    told::wholes(lengths);
-    told::numbers(ps);
-    told::line_end();
+    shown::refusal(name, refusal);
+    shown::number(p.distance);
+    shown::whole(p.rings);
+    shown::whole(p.count);
+    shown::wholes(lengths);
+    shown::numbers(ps);
+    shown::line_end();
 }
 
 // Memory of two counts and three coordinates, each 7 before.
@@ -134,12 +134,12 @@ pub(crate) fn jobs() {
 
 // The answer of a square said to have so many vertices, and how many bytes of it are written.
 fn answer(name: &[u8], n: usize, x: f64, out: &mut [u8]) {
-    let made = regions::without_holes(cases::square(4, 10.0));
+    let made = region_new::without_holes(cases::square(4, 10.0));
     let held = made.shape;
     let points = held.points;
     let counts = held.counts;
     let outer = cases::square(n, x);
-    let a = answering::answer_bytes(
+    let a = job_answer::answer_bytes(
         RegionOffset {
             refusal: Refusal::Granted,
             shape: Region {
@@ -155,9 +155,9 @@ fn answer(name: &[u8], n: usize, x: f64, out: &mut [u8]) {
         out,
     );
     let refusal = a.refusal;
-    told::refusal(name, refusal);
-    told::whole(a.count);
-    told::line_end();
+    shown::refusal(name, refusal);
+    shown::whole(a.count);
+    shown::line_end();
 }
 
 fn answer_142(name: &[u8], n: usize, x: f64) {

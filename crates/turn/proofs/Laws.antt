@@ -14,7 +14,7 @@ use Rattle.math.proofs.Values.{value-of}
 use Rattle.plane.specs.declared.PlanarPoint.{PlanarPoint}
 use Rattle.turn.specs.declared.Turn.{Turn}
 use Rattle.turn.specs.declared.Turn.the-variants.{Straight, Unknown}
-use Rattle.turn.specs.Turns.{place-of, place, turn, by-sums, finite-point, Finite, left-sum, right-sum}
+use Rattle.turn.specs.Turns.{place-of, place, Place, place-at, left-places, right-places, turn, by-sums, finite-point, Finite, left-sum, right-sum}
 use Rattle.turn.proofs.Sums.{Order, less, equal, more, order, tells-left, tells-right, tells-straight}
 use Rattle.turn.proofs.Places.{units-few}
 use Rattle.turn.specs.Laws.{opposite, TurnLaws, PlaceOfBits}
@@ -53,15 +53,11 @@ three x y z u v w a b c = omega arith
 turned : (x y z : ℕ) → y + z + x ≡ x + y + z
 turned x y z = omega arith
 
-back-left : (a b c : PlanarPoint) → left-sum b a c ≡ right-sum a b c
-unfolding left-sum right-sum
-back-left a b c =
-    three _ _ _ _ _ _ (mul-comm (place (b .east)) (place (a .north))) (mul-comm (place (a .east)) (place (c .north))) (mul-comm (place (c .east)) (place (b .north)))
+pub back-left : (a b c : Place) → left-places b a c ≡ right-places a b c
+back-left a b c = three _ _ _ _ _ _ (mul-comm (b .e) (a .n)) (mul-comm (a .e) (c .n)) (mul-comm (c .e) (b .n))
 
-back-right : (a b c : PlanarPoint) → right-sum b a c ≡ left-sum a b c
-unfolding left-sum right-sum
-back-right a b c =
-    three _ _ _ _ _ _ (mul-comm (place (b .north)) (place (a .east))) (mul-comm (place (a .north)) (place (c .east))) (mul-comm (place (c .north)) (place (b .east)))
+pub back-right : (a b c : Place) → right-places b a c ≡ left-places a b c
+back-right a b c = three _ _ _ _ _ _ (mul-comm (b .n) (a .e)) (mul-comm (a .n) (c .e)) (mul-comm (c .n) (b .e))
 
 round-left : (a b c : PlanarPoint) → left-sum b c a ≡ left-sum a b c
 unfolding left-sum
@@ -82,10 +78,10 @@ sums : (l r m s : ℕ) → l ≡ m → r ≡ s → by-sums l r ≡ by-sums m s
 sums l r m s e f = rw (e, f) refl
 
 back-turn : (a b c : PlanarPoint) → turn b a c ≡ opposite (turn a b c)
-unfolding turn
+unfolding turn left-sum right-sum
 back-turn a b c =
     like (all b a c) (all a b c) _ _ (swap-first (finite-point a) (finite-point b) (finite-point c))
-    (sums (left-sum b a c) (right-sum b a c) _ _ (back-left a b c) (back-right a b c) ∙ swapped (left-sum a b c) (right-sum a b c))
+    (sums (left-sum b a c) (right-sum b a c) _ _ (back-left (place-at a) (place-at b) (place-at c)) (back-right (place-at a) (place-at b) (place-at c)) ∙ swapped (left-sum a b c) (right-sum a b c))
     ∙ picked (all a b c) (by-sums (left-sum a b c) (right-sum a b c))
 
 round-turn : (a b c : PlanarPoint) → turn b c a ≡ turn a b c
@@ -95,8 +91,8 @@ round-turn a b c =
     (sums (left-sum b c a) (right-sum b c a) _ _ (round-left a b c) (round-right a b c))
 
 still-turn : (a c : PlanarPoint) → Finite a → Finite c → turn a a c ≡ Straight
-unfolding turn
-still-turn a c f g = rw (f .both-finite, g .both-finite) (tells-straight (left-sum a a c) (right-sum a a c) (back-left a a c))
+unfolding turn left-sum right-sum
+still-turn a c f g = rw (f .both-finite, g .both-finite) (tells-straight (left-sum a a c) (right-sum a a c) (back-left (place-at a) (place-at a) (place-at c)))
 
 pub turn-laws : TurnLaws
 turn-laws = record { back = back-turn; round = round-turn; still = still-turn }

@@ -1,7 +1,8 @@
 -- The sums over places and the sums over sizes and signs tell the same turn. Assumes nothing.
 use mathlib.Core.Path.{_≡_, refl, sym, ap, _∙_, subst}
 use mathlib.Core.Logic.{_⊎_, inl, inr}
-use mathlib.Core.Bool.{Bool, true, false, cond, _&&_, _||_}
+use mathlib.Core.Bool.{Bool, Bool·beq, true, false, cond, _&&_, _||_, and-eq-true-iff}
+use mathlib.Mathlib.Data.Bool.Basic.{and-elim-left, and-elim-right}
 use Prim.Native.Nat.{ℕ, _+_, _-_, _*_, _%_, _^_, _≤_, _<_}
 use native.Mathlib.Nat.{le-of-lt, lt-of-lt-of-le}
 use native.Mathlib.Omega.{arith}
@@ -19,7 +20,7 @@ use Rattle.turn.specs.declared.Turn.the-variants.{Unknown}
 use Rattle.turn.specs.declared.exact.Limbs.{Limbs}
 use Rattle.turn.specs.Turns.{place-of, place, left-sum, right-sum, by-sums, finite-point, turn}
 use Rattle.turn.specs.Laws.{above, beneath}
-use Rattle.turn.specs.Digits.{units, xor, left-total, right-total, LimbsOf, Placed}
+use Rattle.turn.specs.Digits.{units, xor, side-total, LimbsOf, Placed}
 use Rattle.turn.proofs.Sums.{balanced}
 
 -- what a number adds above the origin, and below it
@@ -47,26 +48,30 @@ pair O P Q p n q m e f =
     let d : n * (Q + m) ≡ n * (O + q) = ap (λ (z : ℕ). n * z) f in
     omega (arith, simp poly at a, simp poly at b, simp poly at c, simp poly at d)
 
+-- what the product of two numbers counts, to the right where `right`, else to the left
+abbrev part : (right turned s t : Bool) (u v : ℕ) → ℕ
+part right turned s t u v = cond (Bool·beq (xor turned (xor s t)) right) (u * v) 0
+
 -- x is what a product adds to one side, y what it adds to the other
-even-left : (s t : Bool) (u v : ℕ) → cond (xor false (xor s t)) 0 (u * v) ≡ plus s u * plus t v + minus s u * minus t v
+even-left : (s t : Bool) (u v : ℕ) → part false false s t u v ≡ plus s u * plus t v + minus s u * minus t v
 even-left true true u v = omega arith
 even-left true false u v = omega arith
 even-left false true u v = omega arith
 even-left false false u v = omega arith
 
-even-right : (s t : Bool) (u v : ℕ) → cond (xor false (xor s t)) (u * v) 0 ≡ plus s u * minus t v + minus s u * plus t v
+even-right : (s t : Bool) (u v : ℕ) → part true false s t u v ≡ plus s u * minus t v + minus s u * plus t v
 even-right true true u v = omega arith
 even-right true false u v = omega arith
 even-right false true u v = omega arith
 even-right false false u v = omega arith
 
-odd-left : (s t : Bool) (u v : ℕ) → cond (xor true (xor s t)) 0 (u * v) ≡ plus s u * minus t v + minus s u * plus t v
+odd-left : (s t : Bool) (u v : ℕ) → part false true s t u v ≡ plus s u * minus t v + minus s u * plus t v
 odd-left true true u v = omega arith
 odd-left true false u v = omega arith
 odd-left false true u v = omega arith
 odd-left false false u v = omega arith
 
-odd-right : (s t : Bool) (u v : ℕ) → cond (xor true (xor s t)) (u * v) 0 ≡ plus s u * plus t v + minus s u * minus t v
+odd-right : (s t : Bool) (u v : ℕ) → part true true s t u v ≡ plus s u * plus t v + minus s u * minus t v
 odd-right true true u v = omega arith
 odd-right true false u v = omega arith
 odd-right false true u v = omega arith
@@ -74,10 +79,10 @@ odd-right false false u v = omega arith
 
 -- a product on the left and its share; D is what its places bring
 record Even (D E A B : ℕ) (s t : Bool) (u v : ℕ) : Type 0 where
-  is : A * B + D + cond (xor false (xor s t)) (u * v) 0 ≡ E + cond (xor false (xor s t)) 0 (u * v)
+  is : A * B + D + part true false s t u v ≡ E + part false false s t u v
 
 record Odd (D E A B : ℕ) (s t : Bool) (u v : ℕ) : Type 0 where
-  is : A * B + D + cond (xor true (xor s t)) 0 (u * v) ≡ E + cond (xor true (xor s t)) (u * v) 0
+  is : A * B + D + part false true s t u v ≡ E + part true true s t u v
 
 abbrev shift-down : Bool → Bool → ℕ → ℕ → ℕ
 shift-down s t u v = 2 ^ 2098 * minus s u + 2 ^ 2098 * minus t v
@@ -110,20 +115,20 @@ module _ (ae an be bn ce cn : ℕ) (sae san sbe sbn sce scn : Bool) (uae uan ube
     (wae : Placed ae sae uae) (wan : Placed an san uan) (wbe : Placed be sbe ube) (wbn : Placed bn sbn ubn) (wce : Placed ce sce uce) (wcn : Placed cn scn ucn) where
   pub level-sums :
       ae * bn + be * cn + ce * an
-      + (cond (xor false (xor sae sbn)) (uae * ubn) 0 + cond (xor false (xor sbe scn)) (ube * ucn) 0 + cond (xor false (xor sce san)) (uce * uan) 0
-      + cond (xor true (xor san sbe)) (uan * ube) 0 + cond (xor true (xor sbn sce)) (ubn * uce) 0 + cond (xor true (xor scn sae)) (ucn * uae) 0)
+      + (part true false sae sbn uae ubn + part true false sbe scn ube ucn + part true false sce san uce uan
+      + part true true san sbe uan ube + part true true sbn sce ubn uce + part true true scn sae ucn uae)
       ≡ an * be + bn * ce + cn * ae
-      + (cond (xor false (xor sae sbn)) 0 (uae * ubn) + cond (xor false (xor sbe scn)) 0 (ube * ucn) + cond (xor false (xor sce san)) 0 (uce * uan)
-      + cond (xor true (xor san sbe)) 0 (uan * ube) + cond (xor true (xor sbn sce)) 0 (ubn * uce) + cond (xor true (xor scn sae)) 0 (ucn * uae))
+      + (part false false sae sbn uae ubn + part false false sbe scn ube ucn + part false false sce san uce uan
+      + part false true san sbe uan ube + part false true sbn sce ubn uce + part false true scn sae ucn uae)
   level-sums =
       gathered (2 ^ 2098 * 2 ^ 2098)
       (2 ^ 2098 * minus sae uae) (2 ^ 2098 * minus san uan) (2 ^ 2098 * minus sbe ube) (2 ^ 2098 * minus sbn ubn) (2 ^ 2098 * minus sce uce) (2 ^ 2098 * minus scn ucn)
       (2 ^ 2098 * plus sae uae) (2 ^ 2098 * plus san uan) (2 ^ 2098 * plus sbe ube) (2 ^ 2098 * plus sbn ubn) (2 ^ 2098 * plus sce uce) (2 ^ 2098 * plus scn ucn)
       (ae * bn) (be * cn) (ce * an) (an * be) (bn * ce) (cn * ae)
-      (cond (xor false (xor sae sbn)) 0 (uae * ubn)) (cond (xor false (xor sbe scn)) 0 (ube * ucn)) (cond (xor false (xor sce san)) 0 (uce * uan))
-      (cond (xor true (xor san sbe)) 0 (uan * ube)) (cond (xor true (xor sbn sce)) 0 (ubn * uce)) (cond (xor true (xor scn sae)) 0 (ucn * uae))
-      (cond (xor false (xor sae sbn)) (uae * ubn) 0) (cond (xor false (xor sbe scn)) (ube * ucn) 0) (cond (xor false (xor sce san)) (uce * uan) 0)
-      (cond (xor true (xor san sbe)) (uan * ube) 0) (cond (xor true (xor sbn sce)) (ubn * uce) 0) (cond (xor true (xor scn sae)) (ucn * uae) 0)
+      (part false false sae sbn uae ubn) (part false false sbe scn ube ucn) (part false false sce san uce uan)
+      (part false true san sbe uan ube) (part false true sbn sce ubn uce) (part false true scn sae ucn uae)
+      (part true false sae sbn uae ubn) (part true false sbe scn ube ucn) (part true false sce san uce uan)
+      (part true true san sbe uan ube) (part true true sbn sce ubn uce) (part true true scn sae ucn uae)
       (even ae bn sae sbn uae ubn wae wbn .is) (even be cn sbe scn ube ucn wbe wcn .is) (even ce an sce san uce uan wce wan .is)
       (odd an be san sbe uan ube wan wbe .is) (odd bn ce sbn sce ubn uce wbn wce .is) (odd cn ae scn sae ucn uae wcn wae .is)
 
@@ -172,30 +177,25 @@ pub turn-law : (a b c : PlanarPoint) (ae an be bn ce cn : Limbs)
     → Placed (place (a .east)) (ae .back) (units ae) → Placed (place (a .north)) (an .back) (units an)
     → Placed (place (b .east)) (be .back) (units be) → Placed (place (b .north)) (bn .back) (units bn)
     → Placed (place (c .east)) (ce .back) (units ce) → Placed (place (c .north)) (cn .back) (units cn)
-    → by-sums (left-total ae an be bn ce cn) (right-total ae an be bn ce cn) ≡ by-sums (left-sum a b c) (right-sum a b c)
-unfolding left-sum right-sum left-total right-total
+    → by-sums (side-total false ae an be bn ce cn) (side-total true ae an be bn ce cn) ≡ by-sums (left-sum a b c) (right-sum a b c)
+unfolding left-sum right-sum side-total
 turn-law a b c ae an be bn ce cn pae pan pbe pbn pce pcn =
     balanced _ _ _ _
     (level-sums (place (a .east)) (place (a .north)) (place (b .east)) (place (b .north)) (place (c .east)) (place (c .north))
     (ae .back) (an .back) (be .back) (bn .back) (ce .back) (cn .back) (units ae) (units an) (units be) (units bn) (units ce) (units cn) pae pan pbe pbn pce pcn)
 
 -- ---- the six numbers of three points
-pub and-both : (a b : Bool) → (a && b) ≡ true → (a ≡ true) × (b ≡ true)
-and-both true true h = (refl, refl)
-and-both true false h = absurd (subst T (sym h) tt)
-and-both false b h = absurd (subst T (sym h) tt)
-
 pub or-either : (a b : Bool) → (a || b) ≡ true → (a ≡ true) ⊎ (b ≡ true)
 or-either true b h = inl refl
 or-either false b h = inr h
 
 pub east-finite : (p : PlanarPoint) → finite-point p ≡ true → finite (p .east) ≡ true
 unfolding finite-point
-east-finite p h = and-both (finite (p .east)) (finite (p .north)) h .0
+east-finite p h = and-elim-left (finite (p .east)) (finite (p .north)) h
 
 pub north-finite : (p : PlanarPoint) → finite-point p ≡ true → finite (p .north) ≡ true
 unfolding finite-point
-north-finite p h = and-both (finite (p .east)) (finite (p .north)) h .1
+north-finite p h = and-elim-right (finite (p .east)) (finite (p .north)) h
 
 -- all three points are finite, so the sums tell
 pub finite-turn : (a b c : PlanarPoint) (r : Turn) → (finite-point a && (finite-point b && finite-point c)) ≡ true
@@ -216,5 +216,5 @@ three-tests a b c x y z e f g = rw (e, f, g) refl
 pub all-finite : (a b c : PlanarPoint) → (finite-point a && (finite-point b && finite-point c)) ≡ true
     → (finite-point a ≡ true) × ((finite-point b ≡ true) × (finite-point c ≡ true))
 all-finite a b c h =
-    let f = and-both (finite-point a) (finite-point b && finite-point c) h in
-    (f .0, and-both (finite-point b) (finite-point c) (f .1))
+    let f = and-eq-true-iff (finite-point a) (finite-point b && finite-point c) .0 h in
+    (f .0, and-eq-true-iff (finite-point b) (finite-point c) .0 (f .1))

@@ -1,18 +1,19 @@
 -- The digits of a product add up to the product. Assumes nothing.
 use mathlib.Core.Path.{_≡_, refl, ap, _∙_, subst}
-use mathlib.Core.Bool.{Bool, true, false, cond}
+use mathlib.Core.Bool.{Bool, Bool·beq, true, false, cond}
 use Prim.Native.Nat.{ℕ, zero, suc, _+_, _-_, _*_, _^_, _≤_, _<_}
 use native.Mathlib.Nat.{mul-le-mul}
 use native.Mathlib.Omega.{arith}
 use lib.Dec.{eqb}
 use lib.Pow.{pow-add}
 use borrow.Author.Tests.{eq-eqb, ne-eqb}
+use Rattle.math.proofs.Digits.{sum-none}
+use Rattle.math.specs.Digits.{digit-sum}
 use Rattle.hypotenuse.proofs.Poly.{poly}
 use Rattle.turn.specs.declared.exact.Limbs.{Limbs}
 use Rattle.turn.specs.declared.exact.Product.{Product}
 use Rattle.turn.specs.declared.exact.Six.{Six}
-use Rattle.turn.specs.Digits.{sum, digit-of, Small, ProductOf, turns-back, Narrow, Flat, Empty, Under, goes-left, goes-right, left-digit, right-digit}
-use Rattle.turn.proofs.Sums.{sum-none}
+use Rattle.turn.specs.Digits.{sum, digit-of, Small, ProductOf, turns-back, Narrow, Flat, Empty, Under, goes, side-digit}
 
 pub at : {k q : ℕ} (x y : ℕ) → k ≡ q → cond (eqb k q) x y ≡ x
 at {k = k} {q = q} x y h = ap (λ (b : Bool). cond b x y) (eq-eqb k q h)
@@ -74,7 +75,7 @@ module _ (q a b c d e : ℕ) where
       ∙ at {k = q + 4} {q = q + 4} e 0 refl
 
 grow : (f : ℕ → ℕ) (k j : ℕ) → j ≡ suc k → sum f j ≡ sum f k + f k * 2 ^ (27 * k)
-unfolding sum
+unfolding digit-sum
 grow f k j h = ap (sum f) h
 
 shift : (q i : ℕ) → 2 ^ (27 * (q + i)) ≡ 2 ^ (27 * i) * 2 ^ (27 * q)
@@ -86,7 +87,7 @@ shift q i = ap (λ (x : ℕ). 2 ^ x) (split q i) ∙ pow-add 2 (27 * i) (27 * q)
 five : (q a b c d e : ℕ) → sum (digits q a b c d e) (q + 5) ≡ (a + b * 2 ^ 27 + c * 2 ^ 54 + d * 2 ^ 81 + e * 2 ^ 108) * 2 ^ (27 * q)
 five q a b c d e =
     let f = digits q a b c d e in
-    let s0 : sum f q ≡ 0 = sum-none f q (below q a b c d e) q (omega arith) in
+    let s0 : sum f q ≡ 0 = sum-none 27 f q (below q a b c d e) q (omega arith) in
     let s1 = grow f q (q + 1) (omega arith) in
     let s2 = grow f (q + 1) (q + 2) (omega arith) in
     let s3 = grow f (q + 2) (q + 3) (omega arith) in
@@ -182,19 +183,12 @@ le-cond false x y n h g = g
 pub six : {a b c d e f : ℕ} → a ≤ 3 * 2 ^ 54 → b ≤ 3 * 2 ^ 54 → c ≤ 3 * 2 ^ 54 → d ≤ 3 * 2 ^ 54 → e ≤ 3 * 2 ^ 54 → f ≤ 3 * 2 ^ 54 → a + b + c + d + e + f ≤ 18 * 2 ^ 54
 six ha hb hc hd he hf = omega arith
 
-pub left-le : (s : Six) → Flat s → (k : ℕ) → left-digit s k ≤ 18 * 2 ^ 54
-unfolding left-digit
-left-le s h k = six (one (s .pa) (h .a)) (one (s .pb) (h .b)) (one (s .pc) (h .c)) (one (s .pd) (h .d)) (one (s .pe) (h .e)) (one (s .pf) (h .f))
+pub side-le : (right : Bool) (s : Six) → Flat s → (k : ℕ) → side-digit right s k ≤ 18 * 2 ^ 54
+unfolding side-digit
+side-le right s h k = six (one (s .pa) (h .a)) (one (s .pb) (h .b)) (one (s .pc) (h .c)) (one (s .pd) (h .d)) (one (s .pe) (h .e)) (one (s .pf) (h .f))
   where
-    one : (p : Product) → Narrow p → goes-left p k ≤ 3 * 2 ^ 54
-    one p n = le-cond (p .back) 0 (digit-of p k) (3 * 2 ^ 54) (omega arith) (narrow-digit p k n)
-
-pub right-le : (s : Six) → Flat s → (k : ℕ) → right-digit s k ≤ 18 * 2 ^ 54
-unfolding right-digit
-right-le s h k = six (one (s .pa) (h .a)) (one (s .pb) (h .b)) (one (s .pc) (h .c)) (one (s .pd) (h .d)) (one (s .pe) (h .e)) (one (s .pf) (h .f))
-  where
-    one : (p : Product) → Narrow p → goes-right p k ≤ 3 * 2 ^ 54
-    one p n = le-cond (p .back) (digit-of p k) 0 (3 * 2 ^ 54) (narrow-digit p k n) (omega arith)
+    one : (p : Product) → Narrow p → goes right p k ≤ 3 * 2 ^ 54
+    one p n = le-cond (Bool·beq (p .back) right) (digit-of p k) 0 (3 * 2 ^ 54) (narrow-digit p k n) (omega arith)
 
 zeros : {a b c d e f : ℕ} → a ≡ 0 → b ≡ 0 → c ≡ 0 → d ≡ 0 → e ≡ 0 → f ≡ 0 → a + b + c + d + e + f ≡ 0
 zeros ha hb hc hd he hf = omega arith
@@ -203,19 +197,12 @@ zero-cond : (t : Bool) (x y : ℕ) → x ≡ 0 → y ≡ 0 → cond t x y ≡ 0
 zero-cond true x y h g = h
 zero-cond false x y h g = g
 
-pub left-none : (s : Six) (n : ℕ) → Empty n s → (k : ℕ) → k < n → left-digit s k ≡ 0
-unfolding left-digit
-left-none s n h k g = zeros (one (s .pa) (h .a)) (one (s .pb) (h .b)) (one (s .pc) (h .c)) (one (s .pd) (h .d)) (one (s .pe) (h .e)) (one (s .pf) (h .f))
+pub side-none : (right : Bool) (s : Six) (n : ℕ) → Empty n s → (k : ℕ) → k < n → side-digit right s k ≡ 0
+unfolding side-digit
+side-none right s n h k g = zeros (one (s .pa) (h .a)) (one (s .pb) (h .b)) (one (s .pc) (h .c)) (one (s .pd) (h .d)) (one (s .pe) (h .e)) (one (s .pf) (h .f))
   where
-    one : (p : Product) → Under n p → goes-left p k ≡ 0
-    one p u = zero-cond (p .back) 0 (digit-of p k) refl (u k g)
-
-pub right-none : (s : Six) (n : ℕ) → Empty n s → (k : ℕ) → k < n → right-digit s k ≡ 0
-unfolding right-digit
-right-none s n h k g = zeros (one (s .pa) (h .a)) (one (s .pb) (h .b)) (one (s .pc) (h .c)) (one (s .pd) (h .d)) (one (s .pe) (h .e)) (one (s .pf) (h .f))
-  where
-    one : (p : Product) → Under n p → goes-right p k ≡ 0
-    one p u = zero-cond (p .back) (digit-of p k) 0 (u k g) refl
+    one : (p : Product) → Under n p → goes right p k ≡ 0
+    one p u = zero-cond (Bool·beq (p .back) right) (digit-of p k) 0 (u k g) refl
 
 -- ---- the product of two numbers of three digits
 pub product-law : (turned : Bool) (a b : Limbs) (ll lm ml lh mm hl mh hm hh : ℕ) → Small a → Small b

@@ -1,7 +1,8 @@
 -- Three points of doubles below 2 ^ 400 in size: where one rounded product leads the other, the turn is known. Assumes nothing.
 use mathlib.Core.Path.{_≡_, refl, sym, ap, _∙_, subst}
 use mathlib.Core.Logic.{_⊎_, inl, inr}
-use mathlib.Core.Bool.{Bool, true, false, _&&_, _||_}
+use mathlib.Core.Bool.{Bool, true, false, _&&_, _||_, and-eq-true-iff}
+use mathlib.Mathlib.Data.Bool.Basic.{and-elim-left, and-elim-right}
 use Prim.Native.Nat.{ℕ, _+_, _*_, _^_, _≤_, _<_}
 use native.Mathlib.Omega.{arith}
 use lib.Dec.{T, ltb→lt}
@@ -17,10 +18,10 @@ use Rattle.math.proofs.Ranks.{Less, Equal, lt-signed, eq-signed}
 use Rattle.plane.specs.declared.PlanarPoint.{PlanarPoint}
 use Rattle.turn.specs.declared.Turn.{Turn}
 use Rattle.turn.specs.declared.Turn.the-variants.{Left, Right, Straight}
-use Rattle.turn.specs.Turns.{place, left-sum, right-sum, by-sums, finite-point, turn, Doubles}
+use Rattle.turn.specs.Turns.{place, left-sum, right-sum, by-sums, finite-point, turn, DoublePoint}
 use Rattle.turn.specs.Filters.{big, more, tiny, inside, inside-point, inside-points, leads, surely-less, left-product, right-product, flat, Ready}
 use Rattle.turn.specs.Laws.{above, beneath}
-use Rattle.turn.proofs.Places.{and-both, or-either, place-level, finite-turn}
+use Rattle.turn.proofs.Places.{or-either, place-level, finite-turn}
 use Rattle.turn.proofs.Sign.{sums-level}
 use Rattle.turn.proofs.Sums.{tells-left, tells-right, tells-straight}
 use Rattle.turn.proofs.Filter.{Difference, difference, Product, multiplied, opposed, led}
@@ -44,13 +45,13 @@ bound s L (inr z) h k = omega arith
 pub inside-is : (x : Float) → T (fits binary64 x) → inside x ≡ true → Inside x
 unfolding inside lt neg finite place above beneath ofBits
 inside-is nan f h = absurd (subst T (sym h) tt)
-inside-is (inf true) f h = absurd (subst T (sym (and-both (lt (inf true) big) (lt (neg big) (inf true)) h .1)) tt)
-inside-is (inf false) f h = absurd (subst T (sym (and-both (lt (inf false) big) (lt (neg big) (inf false)) h .0)) tt)
+inside-is (inf true) f h = absurd (subst T (sym (and-elim-right (lt (inf true) big) (lt (neg big) (inf true)) h)) tt)
+inside-is (inf false) f h = absurd (subst T (sym (and-elim-left (lt (inf false) big) (lt (neg big) (inf false)) h)) tt)
 inside-is (fin s m e) f h =
     let x = fin s m e in
     let u = count m e in
     let i : Is x (signed s u) = record { sign = s; size = u; value = count-exact s m e f; same = refl } in
-    let both = and-both (lt x big) (lt (neg big) x) h in
+    let both = and-eq-true-iff (lt x big) (lt (neg big) x) .0 h in
     record {
       units = signed s u;
       is = i;
@@ -89,8 +90,8 @@ crossed i j k l = multiplied span (subtract i j) (subtract k l) (ltb→lt (2 * s
 in-order : {v w : Float} {X W : Signed} → Product (span * span) v X → Product (span * span) w W → surely-less v w ≡ true → Less X W
 unfolding surely-less leads
 in-order {v} {w} {X} {W} i j h = elim (or-either (leads v w) (leads (neg w) (neg v)) h) [
-  | inl e ↦ let b = and-both (lt (mul binary64 more v) w) (lt tiny w) e in led (span * span) i j room (b .0) (b .1)
-  | inr e ↦ let b = and-both (lt (mul binary64 more (neg w)) (neg v)) (lt tiny (neg v)) e in turned (led (span * span) (opposed j) (opposed i) room (b .0) (b .1))
+  | inl e ↦ let b = and-eq-true-iff (lt (mul binary64 more v) w) (lt tiny w) .0 e in led (span * span) i j room (b .0) (b .1)
+  | inr e ↦ let b = and-eq-true-iff (lt (mul binary64 more (neg w)) (neg v)) (lt tiny (neg v)) .0 e in turned (led (span * span) (opposed j) (opposed i) room (b .0) (b .1))
 ]
   where
     room : 2 * (2 * (span * span) + unit) < unit * limit
@@ -124,10 +125,10 @@ record InsidePoint (p : PlanarPoint) : Type 0 where
   east : Inside (p .east)
   north : Inside (p .north)
 
-inside-both : (p : PlanarPoint) → Doubles p → inside-point p ≡ true → InsidePoint p
+inside-both : (p : PlanarPoint) → DoublePoint p → inside-point p ≡ true → InsidePoint p
 unfolding inside-point
 inside-both p d h =
-    let b = and-both (inside (p .east)) (inside (p .north)) h in
+    let b = and-eq-true-iff (inside (p .east)) (inside (p .north)) .0 h in
     record { east = inside-is (p .east) (d .east-double) (b .0); north = inside-is (p .north) (d .north-double) (b .1) }
 
 finite-of : (x : Float) → Inside x → finite x ≡ true
@@ -148,8 +149,8 @@ record AllInside (a b c : PlanarPoint) : Type 0 where
 all-inside-of : (a b c : PlanarPoint) → Ready a b c → AllInside a b c
 unfolding inside-points
 all-inside-of a b c r =
-    let h = and-both (inside-point a) (inside-point b && inside-point c) (r .all-inside) in
-    let k = and-both (inside-point b) (inside-point c) (h .1) in
+    let h = and-eq-true-iff (inside-point a) (inside-point b && inside-point c) .0 (r .all-inside) in
+    let k = and-eq-true-iff (inside-point b) (inside-point c) .0 (h .1) in
     record { first = inside-both a (r .first) (h .0); second = inside-both b (r .second) (k .0); third = inside-both c (r .third) (k .1) }
 
 module _ (a b c : PlanarPoint) (i : AllInside a b c) where
@@ -185,7 +186,7 @@ module _ (a b c : PlanarPoint) (i : AllInside a b c) where
   to-line : flat a b c ≡ true → left-sum a b c ≡ right-sum a b c
   unfolding flat left-sum right-sum
   to-line h =
-      let x = and-both (eq (b .east) (a .east) || eq (c .north) (a .north)) (eq (b .north) (a .north) || eq (c .east) (a .east)) h in
+      let x = and-eq-true-iff (eq (b .east) (a .east) || eq (c .north) (a .north)) (eq (b .north) (a .north) || eq (c .east) (a .east)) .0 h in
       elim (or-either (eq (b .east) (a .east)) (eq (c .north) (a .north)) (x .0)) [
         | inl e ↦ elim (or-either (eq (b .north) (a .north)) (eq (c .east) (a .east)) (x .1)) [
           | inl f ↦ level-a _ _ _ _ (place (c .east)) (place (c .north)) (same-place (i .first .east) (i .second .east) e) (same-place (i .first .north) (i .second .north) f)

@@ -8,10 +8,12 @@ use native.Mathlib.Omega.{arith}
 use lib.Dec.{T, ltb}
 use lib.Pow.{pow-pos}
 use borrow.Author.Tests.{ltb-true, ltb-false}
+use Rattle.math.specs.Digits.{digit-sum}
+use Rattle.math.proofs.Digits.{next-slot, sum-none}
 use Rattle.hypotenuse.proofs.Poly.{poly}
 use Rattle.turn.specs.Turns.{by-sums}
 use Rattle.turn.specs.Digits.{sum}
-use Rattle.turn.proofs.Sums.{next, sum-none, sum-le, tells-left, tells-right, same-turn}
+use Rattle.turn.proofs.Sums.{sum-le, tells-left, tells-right, same-turn}
 
 -- both sums, less a common part, down to the slot k
 pub record Walk (f g : ℕ → ℕ) (from k l r : ℕ) : Type 0 where
@@ -27,9 +29,9 @@ walk-start f g from = record { common = 0; left = whole (sum f from) (2 ^ (27 * 
     whole s P = omega arith
 
 down : (f : ℕ → ℕ) (k : ℕ) → 0 < k → (2 ^ (27 * k) ≡ 2 ^ 27 * 2 ^ (27 * (k - 1))) × (sum f k ≡ sum f (k - 1) + f (k - 1) * 2 ^ (27 * (k - 1)))
-unfolding sum
+unfolding digit-sum
 down f zero h = absurd (omega arith)
-down f (suc k) h = subst (λ (z : ℕ). (2 ^ (27 * suc k) ≡ 2 ^ 27 * 2 ^ (27 * z)) × (sum f (suc k) ≡ sum f z + f z * 2 ^ (27 * z))) (less k) (next k, refl)
+down f (suc k) h = subst (λ (z : ℕ). (2 ^ (27 * suc k) ≡ 2 ^ 27 * 2 ^ (27 * z)) × (sum f (suc k) ≡ sum f z + f z * 2 ^ (27 * z))) (less k) (next-slot 27 k, refl)
   where
     less : (k : ℕ) → k ≡ suc k - 1
     less k = omega arith
@@ -106,7 +108,7 @@ pub walk-end : (limit : ℕ) (f g : ℕ → ℕ) (from to k l r : ℕ) → Walk 
 walk-end limit f g from to k l r w ef eg bf bg h enough = go (ltb to k) (ltb l limit) (ltb r limit) refl refl refl h
   where
     go : (a b c : Bool) → ltb to k ≡ a → ltb l limit ≡ b → ltb r limit ≡ c → (a && (b && c)) ≡ false → by-sums l r ≡ by-sums (sum f from) (sum g from)
-    go false b c p q s h = at-end f g from k l r w (sum-none f to ef k (ltb-false to k p)) (sum-none g to eg k (ltb-false to k p))
+    go false b c p q s h = at-end f g from k l r w (sum-none 27 f to ef k (ltb-false to k p)) (sum-none 27 g to eg k (ltb-false to k p))
     go true false c p q s h =
         let big : 2 ^ 32 ≤ l = le-trans enough (ltb-false l limit q) in
         let z = zero-other (w .one) big in

@@ -1,8 +1,9 @@
 -- What the functions of `exact.rt` promise one another: digits of 27 bits at slots. Definitions only.
 use mathlib.Core.Path.{_≡_}
 use mathlib.Core.Bool.{Bool, Bool·beq, true, false, cond, not}
-use Prim.Native.Nat.{ℕ, zero, suc, _+_, _*_, _^_, _≤_, _<_}
+use Prim.Native.Nat.{ℕ, _+_, _*_, _^_, _≤_, _<_}
 use lib.Dec.{eqb}
+use Rattle.math.specs.Digits.{digit-sum}
 use Rattle.turn.specs.declared.Turn.{Turn}
 use Rattle.turn.specs.declared.exact.Limbs.{Limbs}
 use Rattle.turn.specs.declared.exact.Product.{Product}
@@ -10,9 +11,8 @@ use Rattle.turn.specs.declared.exact.Six.{Six}
 use Rattle.turn.specs.Turns.{place-of, by-sums}
 
 -- what the digits f of the slots below k come to
-unfoldable pub sum : (ℕ → ℕ) → ℕ → ℕ
-sum f zero = 0
-sum f (suc k) = sum f k + f k * 2 ^ (27 * k)
+abbrev pub sum : (ℕ → ℕ) → ℕ → ℕ
+sum = digit-sum 27
 
 abbrev pub units : Limbs → ℕ
 units l = (l .low + l .mid * 2 ^ 27 + l .high * 2 ^ 54) * 2 ^ (27 * l .slot)
@@ -72,21 +72,14 @@ pub record Flat (s : Six) : Type 0 where
   pub e : Narrow (s .pe)
   pub f : Narrow (s .pf)
 
-abbrev pub goes-left : Product → ℕ → ℕ
-goes-left p k = cond (p .back) 0 (digit-of p k)
+-- what p counts at the slot k, to the right where `right`, else to the left
+abbrev pub goes : Bool → Product → ℕ → ℕ
+goes right p k = cond (Bool·beq (p .back) right) (digit-of p k) 0
 
-abbrev pub goes-right : Product → ℕ → ℕ
-goes-right p k = cond (p .back) (digit-of p k) 0
-
-unfoldable pub left-digit : Six → ℕ → ℕ
-left-digit s k =
-    goes-left (s .pa) k + goes-left (s .pb) k + goes-left (s .pc) k
-    + goes-left (s .pd) k + goes-left (s .pe) k + goes-left (s .pf) k
-
-unfoldable pub right-digit : Six → ℕ → ℕ
-right-digit s k =
-    goes-right (s .pa) k + goes-right (s .pb) k + goes-right (s .pc) k
-    + goes-right (s .pd) k + goes-right (s .pe) k + goes-right (s .pf) k
+unfoldable pub side-digit : Bool → Six → ℕ → ℕ
+side-digit right s k =
+    goes right (s .pa) k + goes right (s .pb) k + goes right (s .pc) k
+    + goes right (s .pd) k + goes right (s .pe) k + goes right (s .pf) k
 
 -- p has no digit below n
 abbrev pub Under : ℕ → Product → Type 0
@@ -113,25 +106,17 @@ pub record Over (n : ℕ) (s : Six) : Type 0 where
 pub record Told (s : Six) (r : Turn) : Type 0 where
   pub top : ℕ
   pub over : Over top s
-  pub is : r ≡ by-sums (sum (left-digit s) top) (sum (right-digit s) top)
+  pub is : r ≡ by-sums (sum (side-digit false s) top) (sum (side-digit true s) top)
 
 -- ---- the two sums of six numbers
 
-abbrev pub adds-left : Bool → Limbs → Limbs → ℕ
-adds-left turned a b = cond (turns-back turned a b) 0 (units a * units b)
+abbrev pub adds : Bool → Bool → Limbs → Limbs → ℕ
+adds right turned a b = cond (Bool·beq (turns-back turned a b) right) (units a * units b) 0
 
-abbrev pub adds-right : Bool → Limbs → Limbs → ℕ
-adds-right turned a b = cond (turns-back turned a b) (units a * units b) 0
-
-unfoldable pub left-total : Limbs → Limbs → Limbs → Limbs → Limbs → Limbs → ℕ
-left-total ae an be bn ce cn =
-    adds-left false ae bn + adds-left false be cn + adds-left false ce an
-    + adds-left true an be + adds-left true bn ce + adds-left true cn ae
-
-unfoldable pub right-total : Limbs → Limbs → Limbs → Limbs → Limbs → Limbs → ℕ
-right-total ae an be bn ce cn =
-    adds-right false ae bn + adds-right false be cn + adds-right false ce an
-    + adds-right true an be + adds-right true bn ce + adds-right true cn ae
+unfoldable pub side-total : Bool → Limbs → Limbs → Limbs → Limbs → Limbs → Limbs → ℕ
+side-total right ae an be bn ce cn =
+    adds right false ae bn + adds right false be cn + adds right false ce an
+    + adds right true an be + adds right true bn ce + adds right true cn ae
 
 -- the six products of the turn from a by b to c
 pub record Gathered (ae an be bn ce cn : Limbs) (s : Six) : Type 0 where

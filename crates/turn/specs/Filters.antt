@@ -7,7 +7,7 @@ use Rattle.math.specs.Number.{mul, sub}
 use Rattle.plane.specs.declared.PlanarPoint.{PlanarPoint}
 use Rattle.turn.specs.declared.Turn.{Turn}
 use Rattle.turn.specs.declared.Turn.the-variants.{Left, Right, Straight, Unknown}
-use Rattle.turn.specs.Turns.{Doubles}
+use Rattle.turn.specs.Turns.{DoublePoint}
 
 -- 2 ^ 400
 abbrev pub big : Float
@@ -52,9 +52,9 @@ flat a b c = (eq (b .east) (a .east) || eq (c .north) (a .north)) && (eq (b .nor
 
 -- three points of which the products may be asked
 pub record Ready (a b c : PlanarPoint) : Type 0 where
-  pub first : Doubles a
-  pub second : Doubles b
-  pub third : Doubles c
+  pub first : DoublePoint a
+  pub second : DoublePoint b
+  pub third : DoublePoint c
   pub all-inside : inside-points a b c ≡ true
 
 -- what the filter told: nothing, or the turn

@@ -25,12 +25,26 @@ place nan = 0
 place (inf s) = 0
 place (fin s m e) = place-of s (count m e)
 
--- (b - a) × (c - a) multiplied out is left-sum less right-sum: `TurnIsSign` of Laws.antt
+-- a point by its two places: whole numbers of units of the smallest double, counted from a corner left of and below every double
+pub record Place : Type 0 where
+  pub e : ℕ
+  pub n : ℕ
+
+abbrev pub place-at : PlanarPoint → Place
+place-at p = record { e = place (p .east); n = place (p .north) }
+
+-- (b - a) × (c - a) multiplied out is the left sum less the right sum: `TurnIsSign` of Laws.antt
+abbrev pub left-places : Place → Place → Place → ℕ
+left-places a b c = a .e * b .n + b .e * c .n + c .e * a .n
+
+abbrev pub right-places : Place → Place → Place → ℕ
+right-places a b c = a .n * b .e + b .n * c .e + c .n * a .e
+
 unfoldable pub left-sum : PlanarPoint → PlanarPoint → PlanarPoint → ℕ
-left-sum a b c = place (a .east) * place (b .north) + place (b .east) * place (c .north) + place (c .east) * place (a .north)
+left-sum a b c = left-places (place-at a) (place-at b) (place-at c)
 
 unfoldable pub right-sum : PlanarPoint → PlanarPoint → PlanarPoint → ℕ
-right-sum a b c = place (a .north) * place (b .east) + place (b .north) * place (c .east) + place (c .north) * place (a .east)
+right-sum a b c = right-places (place-at a) (place-at b) (place-at c)
 
 -- left where the cross product is above 0, right where it is below, straight where it is 0
 unfoldable pub by-sums : ℕ → ℕ → Turn
@@ -68,13 +82,13 @@ apart d e = (is-left d && is-right e) || (is-right d && is-left e)
 -- ---- points of a statement
 
 -- both numbers are doubles, finite or not
-pub record Doubles (p : PlanarPoint) : Type 0 where
+pub record DoublePoint (p : PlanarPoint) : Type 0 where
   pub east-double : T (fits binary64 (p .east))
   pub north-double : T (fits binary64 (p .north))
 
 -- both numbers are finite doubles
 pub record Finite (p : PlanarPoint) : Type 0 where
-  pub doubles : Doubles p
+  pub doubles : DoublePoint p
   pub both-finite : finite-point p ≡ true
 
 -- opens every definition above, for a proof that computes with all of them

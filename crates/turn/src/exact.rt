@@ -5,7 +5,7 @@ ghost use Prim.Native.Nat.{_+_, _-_, _*_, _/_, _%_, _^_, _≤_, _<_, min, max};
 ghost use Rattle.math.specs.Number.{finite};
 ghost use Rattle.turn.specs.Turns;
 ghost use Rattle.turn.specs.Digits.{LimbsOf, Small, Narrow, ProductOf, Flat, Over, Under, Empty, Gathered, Told, Placed, units};
-ghost use Rattle.turn.specs.Digits.{sum, digit-of, goes-left, goes-right, left-digit, right-digit, left-total, right-total};
+ghost use Rattle.turn.specs.Digits.{sum, digit-of, goes, side-digit, side-total};
 use crate::Turn;
 use math::bits;
 use plane::PlanarPoint;
@@ -48,21 +48,13 @@ pub struct Six {
     pf: Product,
 }
 
-// 2^n.
-fn power(n: u64) -> u64
-    requires { ⌜ n < 64 ⌝ }
-    ensures { λ r. ⌜ r ≡ 2 ^ n ⌝ }
-{
-    1u64 << n
-}
-
 // The digits of the number m * 2^e, which `back` says is negative.
 fn spread(back: bool, m: u64, e: u64) -> Limbs
     requires { ⌜ m < 2 ^ 53 ⌝ }
     requires { ⌜ e ≤ 2045 ⌝ }
     ensures { λ r. ⌜ LimbsOf back (m * 2 ^ e) r ⌝ }
 {
-    let unit = power(e % 27);
+    let unit = bits::power(e % 27);
     let first = m % BASE * unit;
     let second = (m >> 27) * unit + (first >> 27);
     Limbs {
@@ -127,50 +119,27 @@ fn digit(p: Product, k: u64) -> u64
     bits::pick(k == p.slot, p.da, middle)
 }
 
-// What a product counts to the left at the slot k.
-fn left_of(p: Product, k: u64) -> u64
+// What a product counts at the slot k, to the right where `right`, else to the left.
+fn count(right: bool, p: Product, k: u64) -> u64
     requires { ⌜ Narrow p ⌝ }
-    ensures { λ r. ⌜ r ≡ goes-left p k ⌝ }
+    ensures { λ r. ⌜ r ≡ goes right p k ⌝ }
     ensures { λ r. ⌜ r ≤ 3 * 2 ^ 54 ⌝ }
 {
-    if p.back { 0 } else { digit(p, k) }
+    if p.back == right { digit(p, k) } else { 0 }
 }
 
-// What a product counts to the right at the slot k.
-fn right_of(p: Product, k: u64) -> u64
-    requires { ⌜ Narrow p ⌝ }
-    ensures { λ r. ⌜ r ≡ goes-right p k ⌝ }
-    ensures { λ r. ⌜ r ≤ 3 * 2 ^ 54 ⌝ }
-{
-    if p.back { digit(p, k) } else { 0 }
-}
-
-// What the products count to the left at the slot k.
-fn to_left(s: Six, k: u64) -> u64
+// What the products count at the slot k, to the right where `right`, else to the left.
+fn tally(right: bool, s: Six, k: u64) -> u64
     requires { ⌜ Flat s ⌝ }
-    ensures { λ r. ⌜ r ≡ left-digit s k ⌝ }
+    ensures { λ r. ⌜ r ≡ side-digit right s k ⌝ }
     ensures { λ r. ⌜ r ≤ 18 * 2 ^ 54 ⌝ }
 {
-    left_of(s.pa, k)
-        + left_of(s.pb, k)
-        + left_of(s.pc, k)
-        + left_of(s.pd, k)
-        + left_of(s.pe, k)
-        + left_of(s.pf, k)
-}
-
-// What the products count to the right at the slot k.
-fn to_right(s: Six, k: u64) -> u64
-    requires { ⌜ Flat s ⌝ }
-    ensures { λ r. ⌜ r ≡ right-digit s k ⌝ }
-    ensures { λ r. ⌜ r ≤ 18 * 2 ^ 54 ⌝ }
-{
-    right_of(s.pa, k)
-        + right_of(s.pb, k)
-        + right_of(s.pc, k)
-        + right_of(s.pd, k)
-        + right_of(s.pe, k)
-        + right_of(s.pf, k)
+    count(right, s.pa, k)
+        + count(right, s.pb, k)
+        + count(right, s.pc, k)
+        + count(right, s.pd, k)
+        + count(right, s.pe, k)
+        + count(right, s.pf, k)
 }
 
 // A slot below which a product has no digit: its own, or 200 where it is 0. All slots are below 155.
@@ -219,15 +188,15 @@ fn bottom(s: Six) -> u64
 fn walk(s: Six, from: u64, to: u64) -> Turn
     requires { ⌜ Flat s ⌝ }
     requires { ⌜ Empty to s ⌝ }
-    ensures { λ r. ⌜ r ≡ Turns.by-sums (sum (left-digit s) from) (sum (right-digit s) from) ⌝ }
+    ensures { λ r. ⌜ r ≡ Turns.by-sums (sum (side-digit false s) from) (sum (side-digit true s) from) ⌝ }
 {
     let mut k = from;
     let mut left = 0u64;
     let mut right = 0u64;
     while (to < k) & ((left < LIMIT) & (right < LIMIT)) {
         k -= 1;
-        let l = left * BASE + to_left(s, k);
-        let r = right * BASE + to_right(s, k);
+        let l = left * BASE + tally(false, s, k);
+        let r = right * BASE + tally(true, s, k);
         let least = bits::pick(l < r, l, r);
         left = l - least;
         right = r - least;
@@ -271,7 +240,7 @@ fn of_limbs(ae: Limbs, an: Limbs, be: Limbs, bn: Limbs, ce: Limbs, cn: Limbs) ->
     requires { ⌜ Small bn ⌝ }
     requires { ⌜ Small ce ⌝ }
     requires { ⌜ Small cn ⌝ }
-    ensures { λ r. ⌜ r ≡ Turns.by-sums (left-total ae an be bn ce cn) (right-total ae an be bn ce cn) ⌝ }
+    ensures { λ r. ⌜ r ≡ Turns.by-sums (side-total false ae an be bn ce cn) (side-total true ae an be bn ce cn) ⌝ }
 {
     told(gather(ae, an, be, bn, ce, cn))
 }

@@ -3,7 +3,7 @@ ghost use mathlib.Core.Path.{_≡_};
 ghost use lib.Dec.{T};
 ghost use lib.Ieee.{binary64, fits};
 ghost use Rattle.turn.specs.Turns;
-ghost use Rattle.turn.specs.Turns.{Doubles};
+ghost use Rattle.turn.specs.Turns.{DoublePoint};
 ghost use Rattle.turn.specs.Filters;
 use plane::PlanarPoint;
 
@@ -40,16 +40,16 @@ fn inside(x: f64) -> bool
 
 fn inside_point(p: PlanarPoint) -> bool
     ensures { λ r. ⌜ r ≡ Filters.inside-point p ⌝ }
-    ensures { λ r. ⌜ Doubles p ⌝ }
+    ensures { λ r. ⌜ DoublePoint p ⌝ }
 {
     inside(p.east) & inside(p.north)
 }
 
 fn inside_points(a: PlanarPoint, b: PlanarPoint, c: PlanarPoint) -> bool
     ensures { λ r. ⌜ r ≡ Filters.inside-points a b c ⌝ }
-    ensures { λ r. ⌜ Doubles a ⌝ }
-    ensures { λ r. ⌜ Doubles b ⌝ }
-    ensures { λ r. ⌜ Doubles c ⌝ }
+    ensures { λ r. ⌜ DoublePoint a ⌝ }
+    ensures { λ r. ⌜ DoublePoint b ⌝ }
+    ensures { λ r. ⌜ DoublePoint c ⌝ }
 {
     inside_point(a) & (inside_point(b) & inside_point(c))
 }

@@ -19,12 +19,12 @@ use Rattle.front.specs.Splitting.{free-step, free, one-ring, split-linke
 use Rattle.front.specs.Links.{Links, bit, links, Out, Met}
 use Rattle.front.specs.Velocity.{Moves}
 use Rattle.front.proofs.Demand.Links
-use Rattle.front.proofs.Demand.Steps
+use Rattle.front.proofs.Demand.KeepsRings
 use Rattle.front.proofs.Demand.Links.{RingsOf, live-next, live-prev, prev-next, Same, out-after}
-use Rattle.front.proofs.Demand.Steps.{Parted}
+use Rattle.front.proofs.Demand.KeepsRings.{Parted}
 use Rattle.front.proofs.Demand.Views.{live-in, remove-length, start-same, start-length, split-length, split-met}
-use Rattle.loops.proofs.Laws.{rounds-keep}
-use Rattle.front.proofs.Demand.Choice.{by-test}
+use Rattle.base.proofs.Laws.{rounds-keep}
+use Rattle.base.proofs.Choices.{by-test}
 use Rattle.front.proofs.Demand.Kept.{Kept, out-of, starts, one-ring-same}
 use Rattle.front.proofs.Demand.Tidying.{Tidied}
 
@@ -42,7 +42,7 @@ collapse-at f at events bound x s t k a p v =
     let z : Same (links f) (links g) = start-same f (k .kept .size) s p t in
     let u : Out (links f) (links (remove g x)) x =
     out-after (links f) (links g) (links (remove g x)) x z (out-of g events bound x (starts f events bound s p t (k .kept)) (z .lives x ∙ a)) in
-    (refl, record { held = Steps.collapse 128 (links f) (links (remove g x)) events bound x (k .kept .held) (k .clean) a u; size = remove-length g x (start-length f s p t (k .kept .size)) }, u)
+    (refl, record { held = KeepsRings.collapse 128 (links f) (links (remove g x)) events bound x (k .kept .held) (k .clean) a u; size = remove-length g x (start-length f s p t (k .kept .size)) }, u)
 
 pub collapse-law : (f : List Edge) (at : Float) (events bound x : ℕ) (t : Float) → Tidied f at events bound → Moves f → links f .live x ≡ 1
     → Collapsed f events bound x (collapse f x t)
@@ -54,16 +54,16 @@ collapse-law f at events bound x t k moves a =
 
 -- ---- a split
 
-free-turn : (f : List Edge) (k s : ℕ) → (s < 128 → links f .live s ≡ 0) → free-step f k s < 128 → links f .live (free-step f k s) ≡ 0
+free-round : (f : List Edge) (k s : ℕ) → (s < 128 → links f .live s ≡ 0) → free-step f k s < 128 → links f .live (free-step f k s) ≡ 0
 unfolding free-step
-free-turn f k s h =
+free-round f k s h =
     by-test (λ (n : ℕ). n < 128 → links f .live n ≡ 0) (ltb s 128) (λ q. h)
     (λ q. by-test (λ (n : ℕ). n < 128 → links f .live n ≡ 0) ((edge f k) .alive) (λ e l. absurd (omega arith)) (λ e l. ap bit e))
 
 -- the slot found, if one is, is not alive
 pub free-law : (f : List Edge) → free f < 128 → links f .live (free f) ≡ 0
 unfolding free
-free-law f = rounds-keep (free-step f) (λ i s. s < 128 → links f .live s ≡ 0) 128 (λ h. absurd (omega arith)) (free-turn f) 128
+free-law f = rounds-keep (free-step f) (λ i s. s < 128 → links f .live s ≡ 0) 128 (λ h. absurd (omega arith)) (free-round f) 128
 
 -- it is the first: each slot before it is alive
 record FreeAt (f : List Edge) (k s : ℕ) : Type 0 where
@@ -126,7 +126,7 @@ module _ (f : List Edge) (at : Float) (events bound v e s : ℕ) (p : PlanarPoin
   split-law =
       subst (λ (b : Bool). Parts events bound b g) (sym (one-ring-same f events bound v e (k .kept) (w .vertex) (w .other)))
       (sized (Links.one-ring 128 (links f) v e)
-      (Steps.split 128 (links f) (links g) events bound v e s (k .kept .held)
+      (KeepsRings.split 128 (links f) (links g) events bound v e s (k .kept .held)
       (record { vertex = w .vertex; edge = w .hit; apart = w .other; off = w .off; free = z; slot = h })
       split-links))
     where

@@ -13,6 +13,7 @@ use lib.Ieee.Fits.{up-pos}
 use Rattle.plane.specs.declared.PlanarPoint.{PlanarPoint}
 use Rattle.math.specs.Number
 use Rattle.math.specs.Number.{add, mul, div, zero-float, infinity, fmax, finite}
+use Rattle.math.proofs.Order.{le-nan}
 use Rattle.front.specs.Thresholds.{on-edge}
 use Rattle.plane.specs.Plane.{sub, dot}
 use Rattle.front.specs.Edges.{moved-by}
@@ -152,12 +153,6 @@ unfolding lib.Ieee.mul
 mul-nan nan = refl
 mul-nan (inf s) = refl
 mul-nan (fin s m e) = refl
-
-le-nan : (x : Float) → le x nan ≡ false
-unfolding le lt eq
-le-nan nan = refl
-le-nan (inf s) = refl
-le-nan (fin s m e) = refl
 
 abbrev nan-point : PlanarPoint
 nan-point = record { east = nan; north = nan }

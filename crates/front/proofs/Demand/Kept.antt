@@ -15,18 +15,19 @@ use Rattle.plane.specs.declared.PlanarPoint.{PlanarPoint}
 use Rattle.front.specs.declared.Edge.{Edge}
 use Rattle.front.specs.declared.Round.{Round}
 use Rattle.front.specs.declared.Reach.{Reach}
-use Rattle.loops.specs.Loop.{rounds}
+use Rattle.base.specs.Loop.{rounds}
 use Rattle.front.specs.Edges.{edge, set-start, remove, round-on, round-step, ring-len}
 use Rattle.front.specs.Splitting.{reach-on, reach-step, one-ring}
 use Rattle.front.specs.Links.{Links, links, along, Out}
 use Rattle.front.proofs.Demand.Links
-use Rattle.loops.proofs.Laws.{stays-to, rounds-keep}
-use Rattle.front.proofs.Demand.Occ.{same-eq, same-ne, same-self, same-pos, by-cases, occ, occ-nil, occ-cons}
+use Rattle.base.proofs.Laws.{stays-to, rounds-keep}
+use Rattle.base.proofs.Occurrences.{same-eq, same-ne, same-self, same-pos, occ, occ-nil, occ-cons}
+use Rattle.base.proofs.Choices.{by-cases}
 use Rattle.front.proofs.Demand.Chain.{Chain}
 use Rattle.front.proofs.Demand.Rings.{Ring, ring, edges}
 use Rattle.front.proofs.Demand.Walk.{along-end, along-in, meets-in, meets-out}
 use Rattle.front.proofs.Demand.Links.{RingsOf, Held, From, from, alone, short, ring-len-is, live-next, live-prev, Same, same-rings}
-use Rattle.front.proofs.Demand.Steps.{Fewer, take-out}
+use Rattle.front.proofs.Demand.KeepsRings.{Fewer, take-out}
 use Rattle.front.proofs.Demand.Views.{live-in, remove-length, remove-out, start-same, start-length}
 
 pub record Kept (f : List Edge) (events bound : ℕ) : Type 0 where
@@ -91,9 +92,9 @@ module _ (f : List Edge) (x : ℕ) (xs : List ℕ) (rest : List Ring) (R : Rings
   came-round : Round
   came-round = record { at = along N (length xs) x; count = length xs + 1; closed = true }
 
-  turn : (i : ℕ) → i < length xs → round-step f x i (passed i) ≡ passed (suc i)
+  stage : (i : ℕ) → i < length xs → round-step f x i (passed i) ≡ passed (suc i)
   unfolding round-step round-on passed
-  turn i h =
+  stage i h =
       ap (λ (b : Bool). cond b (record { at = along N i x; count = i + 1; closed = true }) (record { at = N (along N i x); count = i + 1; closed = false }))
       (ne-eqb (N (along N i x)) x (λ q. omega (
         arith,
@@ -106,17 +107,17 @@ module _ (f : List Edge) (x : ℕ) (xs : List ℕ) (rest : List Ring) (R : Rings
   walks : (i : ℕ) → i ≤ length xs → rounds (round-step f x) i (passed 0) ≡ passed i
   unfolding rounds
   walks zero h = refl
-  walks (suc i) h = ap (round-step f x i) (walks i (omega arith)) ∙ turn i h
+  walks (suc i) h = ap (round-step f x i) (walks i (omega arith)) ∙ stage i h
 
-  last-turn : round-step f x (length xs) (passed (length xs)) ≡ came-round
+  last-round : round-step f x (length xs) (passed (length xs)) ≡ came-round
   unfolding round-step round-on passed came-round
-  last-turn =
+  last-round =
       ap (λ (b : Bool). cond b (record { at = along N (length xs) x; count = length xs + 1; closed = true }) (record { at = N (along N (length xs) x); count = length xs + 1; closed = false }))
       (eq-eqb (N (along N (length xs) x)) x (along-suc N (length xs) x ∙ along-end N (λ s. (edge f s) .previous) x xs x (R .linked .0)))
 
   comes-round : rounds (round-step f x) (suc (length xs)) (passed 0) ≡ came-round
   unfolding rounds
-  comes-round = ap (round-step f x (length xs)) (walks (length xs) (omega arith)) ∙ last-turn
+  comes-round = ap (round-step f x (length xs)) (walks (length xs) (omega arith)) ∙ last-round
 
   rests : (k : ℕ) → round-step f x k came-round ≡ came-round
   unfolding round-step came-round

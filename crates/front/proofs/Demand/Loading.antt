@@ -19,19 +19,18 @@ use Rattle.error.specs.declared.Refusal.{Refusal}
 use Rattle.error.specs.declared.Refusal.the-variants.{Granted, Collapses}
 use Rattle.error.specs.Refusals.{granted, number, values}
 use Rattle.ring.specs.Ring.{following}
-use Rattle.loops.specs.Loop.{rounds}
+use Rattle.base.specs.Loop.{rounds}
 use Rattle.front.specs.Edges.{unused, blank, edge}
 use Rattle.front.specs.Lines.{through}
 use Rattle.front.specs.Loading.{no-front, loaded-nothing, load-refused, load-vertex, loaded-edge, has-room, load-line, load-edge, load-step, ring-begun, load-ring}
 use Rattle.front.specs.Links.{bit, links}
-use Rattle.front.proofs.Demand.Choice.{by-test}
-use Rattle.front.proofs.Demand.Occ.{by-cases}
 use Rattle.front.proofs.Demand.Rings.{Ring, spare, Threes, occs-nil}
 use Rattle.front.proofs.Demand.Links.{RingsOf}
 use Rattle.front.proofs.Demand.Load.{RingAt, last-ring, last-spare, last-threes, add-ring}
 use Rattle.front.proofs.EdgeLaws.{edge-in, edge-out}
 use Rattle.front.proofs.Demand.Views.{edge-here, edge-there}
-use Rattle.loops.proofs.Laws.{rounds-keep}
+use Rattle.base.proofs.Laws.{rounds-keep}
+use Rattle.base.proofs.Choices.{by-test, by-cases}
 use Rattle.front.proofs.Demand.Lines.{Lined, put}
 
 spare-none : spare [] + 2 * 0 ≡ 0

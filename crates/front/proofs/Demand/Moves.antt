@@ -18,10 +18,10 @@ use Rattle.math.specs.Number.{add, mul, div, one}
 use Rattle.plane.specs.Plane.{dot}
 use Rattle.front.specs.Thresholds.{opposite}
 use Rattle.front.specs.Lines.{direction, normal, velocity-by, velocity}
-use Rattle.front.specs.Edges.{edge, moved-by, vertex-by, vertex-of, vertex}
+use Rattle.front.specs.Edges.{edge, edge-line, moved-by, vertex-by, vertex-of, vertex}
 use Rattle.front.specs.Tidying.{opposed}
 use Rattle.front.specs.Links.{links}
-use Rattle.front.specs.Velocity.{Turned-left, SameBits, Moves}
+use Rattle.front.specs.Velocity.{LeftNormal, SameBits, Moves}
 use Rattle.front.proofs.Demand.Links.{live-prev, next-prev}
 use Rattle.front.proofs.Demand.Tidying.{Tidied, tidied-apart}
 use Rattle.front.proofs.Demand.Views.{alive-of}
@@ -96,7 +96,7 @@ same-bits a b p q =
 
 -- ---- a velocity
 
-has-velocity : (a b : Line) → Turned-left a → Turned-left b → opposed (direction a) (direction b) ≡ false → (v : PlanarPoint) × (velocity a b ≡ There v)
+has-velocity : (a b : Line) → LeftNormal a → LeftNormal b → opposed (direction a) (direction b) ≡ false → (v : PlanarPoint) × (velocity a b ≡ There v)
 unfolding velocity velocity-by opposed
 has-velocity a b p q h =
     let scale : Float = add one (dot (normal a) (normal b)) in (
@@ -105,14 +105,14 @@ has-velocity a b p q h =
           (ap (λ (x : Float). lt (add one x) opposite) (same-bits a b p q) ∙ h),
     )
 
-pub moves : (P : Line → Type 0) → ((l : Line) → P l → Turned-left l) → (f : List Edge) (t : Float) (events bound : ℕ) → Tidied f t events bound → Lined (λ i. P) f → Moves f
+pub moves : (P : Line → Type 0) → ((l : Line) → P l → LeftNormal l) → (f : List Edge) (t : Float) (events bound : ℕ) → Tidied f t events bound → Lined (λ i. P) f → Moves f
 unfolding vertex vertex-of vertex-by
 moves P left f t events bound T l x a now =
     let p : ℕ = (edge f x) .previous in
     let ap-live : links f .live p ≡ 1 = live-prev (links f) (T .kept .held .rs) (T .kept .held .rings) x a in
     let n : (edge f p) .next ≡ x = next-prev (links f) (T .kept .held .rs) (T .kept .held .rings) x a in
-    let w : (v : PlanarPoint) × (velocity ((edge f p) .line) ((edge f x) .line) ≡ There v) =
-    has-velocity ((edge f p) .line) ((edge f x) .line)
-    (left ((edge f p) .line) (l .lines p (alive-of ((edge f p) .alive) ap-live))) (left ((edge f x) .line) (l .lines x (alive-of ((edge f x) .alive) a)))
-    (subst (λ (k : ℕ). opposed (direction ((edge f p) .line)) (direction ((edge f k) .line)) ≡ false) n (tidied-apart f t events bound T p ap-live)) in
+    let w : (v : PlanarPoint) × (velocity (edge-line (edge f p)) (edge-line (edge f x)) ≡ There v) =
+    has-velocity (edge-line (edge f p)) (edge-line (edge f x))
+    (left (edge-line (edge f p)) (l .lines p (alive-of ((edge f p) .alive) ap-live))) (left (edge-line (edge f x)) (l .lines x (alive-of ((edge f x) .alive) a)))
+    (subst (λ (k : ℕ). opposed (direction (edge-line (edge f p))) (direction (edge-line (edge f k))) ≡ false) n (tidied-apart f t events bound T p ap-live)) in
     (moved-by ((edge f x) .start) (w .0) (Number.sub now ((edge f x) .since)), w .0, ap (vertex-by (edge f x) now) (w .1))

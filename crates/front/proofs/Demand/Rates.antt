@@ -22,10 +22,10 @@ use Rattle.math.specs.Number
 use Rattle.math.specs.Number.{add, div, one}
 use Rattle.front.specs.Thresholds.{opposite}
 use Rattle.plane.specs.Plane.{sub, dot}
-use Rattle.front.specs.Edges.{edge, vertex-by, vertex-of, vertex, length-to, length-from, edge-length}
+use Rattle.front.specs.Edges.{edge, edge-line, vertex-by, vertex-of, vertex, length-to, length-from, edge-length}
 use Rattle.front.specs.Lines.{direction, normal, velocity-by, velocity}
 use Rattle.front.specs.Links.{links}
-use Rattle.front.specs.Velocity.{Turned-left}
+use Rattle.front.specs.Velocity.{LeftNormal}
 use Rattle.front.proofs.Demand.Rings.{Ring}
 use Rattle.front.proofs.Demand.Links.{RingsOf, live-next, live-prev}
 use Rattle.front.proofs.Demand.Views.{alive-of}
@@ -39,7 +39,7 @@ pub record Bounded (l : Line) : Type 0 where
   pub u1 : Small 1 (l .u1)
   pub n0 : Small 1 (l .n0)
   pub n1 : Small 1 (l .n1)
-  pub left : Turned-left l
+  pub left : LeftNormal l
 
 pub record SmallPoint (k : ℕ) (p : PlanarPoint) : Type 0 where
   pub east : Small k (p .east)
@@ -107,23 +107,23 @@ by-small e t Nowhere h = tt
 by-small e t (There v) h = h
 
 module _ (f : List Edge) (l : Lined (λ i. Bounded) f) (rs : List Ring) (R : RingsOf (links f) rs) (t : Float) where
-  bounded : (x : ℕ) → links f .live x ≡ 1 → Bounded ((edge f x) .line)
+  bounded : (x : ℕ) → links f .live x ≡ 1 → Bounded (edge-line (edge f x))
   bounded x a = l .lines x (alive-of ((edge f x) .alive) a)
 
   vertex-small : (x : ℕ) → links f .live x ≡ 1 → Vertex-is (vertex f x t)
   unfolding vertex vertex-of
-  vertex-small x a = by-small (edge f x) t (velocity ((edge f ((edge f x) .previous)) .line) ((edge f x) .line))
-      (velocity-small ((edge f ((edge f x) .previous)) .line) ((edge f x) .line) (bounded ((edge f x) .previous) (live-prev (links f) rs R x a)) (bounded x a))
+  vertex-small x a = by-small (edge f x) t (velocity (edge-line (edge f ((edge f x) .previous))) (edge-line (edge f x)))
+      (velocity-small (edge-line (edge f ((edge f x) .previous))) (edge-line (edge f x)) (bounded ((edge f x) .previous) (live-prev (links f) rs R x a)) (bounded x a))
 
   abbrev Length-is : Length → Type 0
   Length-is NoLength = Unit {0}
   Length-is (Long a rate) = Small 45 rate
 
-  to-small : (e : Edge) → Bounded (e .line) → (p v : PlanarPoint) → SmallPoint 42 v → (w : Vertex) → Vertex-is w → Length-is (length-to e p v w)
+  to-small : (e : Edge) → Bounded (edge-line e) → (p v : PlanarPoint) → SmallPoint 42 v → (w : Vertex) → Vertex-is w → Length-is (length-to e p v w)
   unfolding length-to sub
   to-small e b p v h NoVertex k = tt
   to-small e b p v h (Moving q w) k =
-      dot-small 1 43 (direction (e .line)) (sub w v) (omega arith) (record { east = b .u0; north = b .u1 })
+      dot-small 1 43 (direction (edge-line e)) (sub w v) (omega arith) (record { east = b .u0; north = b .u1 })
       (record { east = sub-small 42 (w .east) (v .east) (omega arith) (k .east) (h .east); north = sub-small 42 (w .north) (v .north) (omega arith) (k .north) (h .north) })
 
   from-small : (x : ℕ) → links f .live x ≡ 1 → (v : Vertex) → Vertex-is v → Length-is (length-from f (edge f x) t v)

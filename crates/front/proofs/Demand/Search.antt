@@ -3,6 +3,7 @@ use mathlib.Core.Path.{_≡_, refl, sym, ap, _∙_, subst}
 use mathlib.Core.Logic.{_≢_}
 use mathlib.Core.Bool.{Bool, true, false, cond, not, _&&_, _||_}
 use mathlib.Core.List.{List}
+use mathlib.Mathlib.Data.Bool.Basic.{and-elim-left, and-elim-right}
 use Prim.Native.Nat.{ℕ}
 use lib.Dec.{eqb}
 use lib.Ieee.{Float, inf, lt, le, neg}
@@ -24,13 +25,14 @@ use Rattle.math.specs.Number
 use Rattle.math.specs.Number.{one, add, mul, div, zero-float, fmax}
 use Rattle.front.specs.Thresholds.{tie}
 use Rattle.plane.specs.Plane.{dot, cross}
-use Rattle.front.specs.Edges.{edge, vertex, moved-by, length-to, length-from, edge-length}
+use Rattle.front.specs.Edges.{edge, edge-line, vertex, moved-by, length-to, length-from, edge-length}
 use Rattle.front.specs.Lines.{direction, normal}
-use Rattle.front.specs.NextEvent.{look-split, look-collapse, sooner, late, hit-within, hit-to, hit-from, hit-then, hit-after, hit-closing, hit-at, candidate, hit-step, hits, look-turn, shrinking, look-length, look-vertex, look-at, look-step, look, choose, event-of, next-event}
+use Rattle.front.specs.NextEvent.{look-split, look-collapse, sooner, late, hit-within, hit-to, hit-from, hit-then, hit-after, hit-closing, hit-at, candidate, hit-step, hits, look-corner, shrinking, look-length, look-vertex, look-at}
+use Rattle.front.specs.NextEvent.{look-step, look, choose, event-of, next-event}
 use Rattle.front.specs.Links.{bit, links}
 use Rattle.front.specs.Velocity.{Moves}
-use Rattle.loops.proofs.Laws.{rounds-keep}
-use Rattle.front.proofs.Demand.Choice.{by-test, and-left, and-right}
+use Rattle.base.proofs.Laws.{rounds-keep}
+use Rattle.base.proofs.Choices.{by-test}
 use Rattle.front.proofs.Demand.Forward.{Forward, hit-forward, shrink-forward}
 use Rattle.front.proofs.Demand.Events.{Hits}
 
@@ -90,8 +92,8 @@ module _ (f : List Edge) (t : Float) (rates : Rates f t) (moves : Moves f) (on :
         → Fine (hit-from f v e (edge f e) step at (moved-by p vel step) s (Moving from z))
     unfolding hit-from
     from-fine step at p vel s from z q h =
-        at-vertex f moves on (λ x. Fine (hit-to v e (direction ((edge f e) .line)) step (moved-by p vel step) from s x)) ((edge f e) .next) (on e (w .hit)) at
-        (λ to y. to-fine (direction ((edge f e) .line)) step p vel from s to y q h)
+        at-vertex f moves on (λ x. Fine (hit-to v e (direction (edge-line (edge f e))) step (moved-by p vel step) from s x)) ((edge f e) .next) (on e (w .hit)) at
+        (λ to y. to-fine (direction (edge-line (edge f e))) step p vel from s to y q h)
 
     after-fine : (p vel : PlanarPoint) (step : Float) (s : EventSearch) → Fine s → Fine (hit-after f t v e (edge f e) p vel step s)
     unfolding hit-after hit-then
@@ -107,20 +109,20 @@ module _ (f : List Edge) (t : Float) (rates : Rates f t) (moves : Moves f) (on :
     at-fine : (p vel : PlanarPoint) (s : EventSearch) → Fine s → Fine (hit-at f t v e (edge f e) p vel s)
     unfolding hit-at hit-closing
     at-fine p vel s h =
-        let closing : Float = Number.sub (dot (normal ((edge f e) .line)) vel) one in
-        let step : Float = div (Number.sub (add ((edge f e) .line .c) t) (dot (normal ((edge f e) .line)) p)) closing in
+        let closing : Float = Number.sub (dot (normal (edge-line (edge f e))) vel) one in
+        let step : Float = div (Number.sub (add ((edge-line (edge f e)) .c) t) (dot (normal (edge-line (edge f e))) p)) closing in
         by-test Fine (le zero-float closing) (λ r. h) (λ r. after-fine p vel step s h)
 
   hits-of : (v e : ℕ) (s : EventSearch) → links f .live v ≡ 1 → candidate v ((edge f v) .previous) e (edge f e) s ≡ true → Hits f v e
   unfolding candidate
   hits-of v e s a q =
-      let r : _ = and-right (not (s .stalled)) _ q in
-      let apart : _ = and-right ((edge f e) .alive) _ r in
+      let r : _ = and-elim-right (not (s .stalled)) _ q in
+      let apart : _ = and-elim-right ((edge f e) .alive) _ r in
       record {
         vertex = a;
-        hit = ap bit (and-left ((edge f e) .alive) _ r);
-        other = eqb-false e v (not-true (eqb e v) (and-left (not (eqb e v)) _ apart));
-        off = eqb-false e ((edge f v) .previous) (not-true (eqb e ((edge f v) .previous)) (and-right (not (eqb e v)) _ apart));
+        hit = ap bit (and-elim-left ((edge f e) .alive) _ r);
+        other = eqb-false e v (not-true (eqb e v) (and-elim-left (not (eqb e v)) _ apart));
+        off = eqb-false e ((edge f v) .previous) (not-true (eqb e ((edge f v) .previous)) (and-elim-right (not (eqb e v)) _ apart));
       }
 
   hits-fine : (v : ℕ) (p vel : PlanarPoint) (s : EventSearch) → links f .live v ≡ 1 → Fine s → Fine (hits f t v ((edge f v) .previous) p vel s)
@@ -143,10 +145,10 @@ module _ (f : List Edge) (t : Float) (rates : Rates f t) (moves : Moves f) (on :
       (λ r. record { gone = sooner-fine x (div (fmax l zero-float) (neg rate)) (s .collapse) a (shrink-forward l rate r (rates x a l rate q)) (h .gone); struck = h .struck; moving = h .moving })
       (λ r. h)
 
-  turn-fine : (x : ℕ) (p vel : PlanarPoint) (s : EventSearch) → links f .live x ≡ 1 → Fine s → Fine (look-turn f t x (edge f x) p vel s)
-  unfolding look-turn
-  turn-fine x p vel s a h =
-      by-test Fine (le zero-float (cross (direction ((edge f ((edge f x) .previous)) .line)) (direction ((edge f x) .line)))) (λ q. h) (λ q. hits-fine x p vel s a h)
+  corner-fine : (x : ℕ) (p vel : PlanarPoint) (s : EventSearch) → links f .live x ≡ 1 → Fine s → Fine (look-corner f t x (edge f x) p vel s)
+  unfolding look-corner
+  corner-fine x p vel s a h =
+      by-test Fine (le zero-float (cross (direction (edge-line (edge f ((edge f x) .previous)))) (direction (edge-line (edge f x))))) (λ q. h) (λ q. hits-fine x p vel s a h)
 
   vertex-fine : (x : ℕ) (s : EventSearch) → links f .live x ≡ 1 → Fine s → Fine (look-vertex f t x (edge f x) s (vertex f x t))
   unfolding look-vertex look-length
@@ -154,11 +156,11 @@ module _ (f : List Edge) (t : Float) (rates : Rates f t) (moves : Moves f) (on :
       at-vertex f moves on (λ v. Fine (look-vertex f t x (edge f x) s v)) x a t
       (λ p vel. let m : (l : Float) × (rate : Float) × (edge-length f x t ≡ Long l rate) = length-there f moves on x a t in
       subst (λ (l : Length). Fine (look-length f t x (edge f x) p vel s l)) (sym (m .2))
-      (turn-fine x p vel (shrinking x (m .0) (m .1) s) a (shrinking-fine x (m .0) (m .1) s a (m .2) h)))
+      (corner-fine x p vel (shrinking x (m .0) (m .1) s) a (shrinking-fine x (m .0) (m .1) s a (m .2) h)))
 
   step-fine : (x : ℕ) (s : EventSearch) → Fine s → Fine (look-step f t x s)
   unfolding look-step look-at
-  step-fine x s h = by-test Fine (not (s .stalled) && (edge f x) .alive) (λ q. vertex-fine x s (ap bit (and-right (not (s .stalled)) _ q)) h) (λ q. h)
+  step-fine x s h = by-test Fine (not (s .stalled) && (edge f x) .alive) (λ q. vertex-fine x s (ap bit (and-elim-right (not (s .stalled)) _ q)) h) (λ q. h)
 
   look-fine : Fine (look f t)
   unfolding look

@@ -3,6 +3,7 @@ use lib.Ieee
 use mathlib.Core.Path.{_≡_, refl, sym, subst}
 use mathlib.Core.Bool.{Bool, true, false, cond, _&&_, _||_, false≢true}
 use mathlib.Core.List.{List}
+use mathlib.Mathlib.Data.Bool.Basic.{and-elim-left, and-elim-right}
 use Prim.Native.Nat.{ℕ, suc, _+_, _-_, _*_, _^_, _≤_, _<_}
 use native.Mathlib.Omega.{arith}
 use lib.Dec.{leb, ltb, eqb}
@@ -14,17 +15,16 @@ use Rattle.front.specs.declared.Line.{Line}
 use Rattle.front.specs.declared.Through.{Through}
 use Rattle.front.specs.declared.Through.the-variants.{NoLine, Along}
 use Rattle.math.specs.Number.{div, zero-float, abs}
-use Rattle.ringcheck.specs.Checks.{max-coordinate}
+use Rattle.ring_check.specs.Checks.{max-coordinate}
 use Rattle.hypotenuse.specs.Hypot.{hypot}
 use Rattle.plane.specs.Plane.{sub}
 use Rattle.ring.specs.Ring.{vertex-at, following}
 use Rattle.ring.proofs.Vertices.{following-lt}
-use Rattle.polygon.specs.Outlines.{in-range-step, in-range, proper}
+use Rattle.outline.specs.Outlines.{in-range-step, in-range, proper}
 use Rattle.front.specs.Lines.{line-along, line-by, line-of, through}
 use Rattle.front.specs.Loading.{load-vertex}
-use Rattle.loops.proofs.Laws.{rounds-keep}
-use Rattle.front.proofs.Demand.Choice.{and-left, and-right}
-use Rattle.front.proofs.Demand.Occ.{by-cases}
+use Rattle.base.proofs.Laws.{rounds-keep}
+use Rattle.base.proofs.Choices.{by-cases}
 use Rattle.front.proofs.Demand.Small.{Small, neg-small, sub-small}
 use Rattle.front.proofs.Demand.Rates.{Bounded, SmallPoint}
 use Rattle.front.proofs.Demand.Unit.{hypot-east, hypot-north, div-long}
@@ -87,8 +87,8 @@ unfolding in-range in-range-step
 coordinates ps n q =
     rounds-keep (in-range-step ps) (λ k s. s ≡ true → (i : ℕ) → i < k → Small 30 (getD ps i nan)) true (λ z i h. absurd (omega arith))
     (λ k s h z i l. by-cases i k
-    (λ e. subst (λ (j : ℕ). Small 30 (getD ps j nan)) (sym e) (within-small (getD ps k nan) (and-right s (le (abs (getD ps k nan)) max-coordinate) z)))
-    (λ d. h (and-left s (le (abs (getD ps k nan)) max-coordinate) z) i (omega arith)))
+    (λ e. subst (λ (j : ℕ). Small 30 (getD ps j nan)) (sym e) (within-small (getD ps k nan) (and-elim-right s (le (abs (getD ps k nan)) max-coordinate) z)))
+    (λ d. h (and-elim-left s (le (abs (getD ps k nan)) max-coordinate) z) i (omega arith)))
     (2 * n) q
 
 pub vertices : (ps : List Float) (n : ℕ) → in-range ps n ≡ true → (j : ℕ) → j < n → SmallPoint 30 (vertex-at ps j)
@@ -128,7 +128,7 @@ pub record Proper (room : ℕ) (ps : List Float) (n : ℕ) : Type 0 where
 pub proper-is : (room : ℕ) (ps : List Float) (n : ℕ) → proper room ps n ≡ true → Proper room ps n
 unfolding proper
 proper-is room ps n q = record {
-  three = leb-true 3 n (and-left (leb 3 n) (leb n room && in-range ps n) q);
-  fits = leb-true n room (and-left (leb n room) (in-range ps n) (and-right (leb 3 n) (leb n room && in-range ps n) q));
-  range = and-right (leb n room) (in-range ps n) (and-right (leb 3 n) (leb n room && in-range ps n) q);
+  three = leb-true 3 n (and-elim-left (leb 3 n) (leb n room && in-range ps n) q);
+  fits = leb-true n room (and-elim-left (leb n room) (in-range ps n) (and-elim-right (leb 3 n) (leb n room && in-range ps n) q));
+  range = and-elim-right (leb n room) (in-range ps n) (and-elim-right (leb 3 n) (leb n room && in-range ps n) q);
 }

@@ -4,12 +4,12 @@ use mathlib.Core.List.{List, [], _∷_, _++_}
 use Prim.Native.Nat.{ℕ, zero, suc, _+_, _*_, _≤_}
 use native.Mathlib.Omega.{arith}
 use lib.ListN.{length, take}
+use Rattle.base.proofs.Choices.{by-test}
 use Rattle.front.specs.declared.Edge.{Edge}
 use Rattle.front.specs.declared.Event.{Event}
 use Rattle.front.specs.declared.Event.the-variants.{Stalled, Never, Collapse, Split}
 use Rattle.front.specs.declared.Sweep.{Sweep}
-use Rattle.front.proofs.Demand.Choice.{by-test}
-use Rattle.front.specs.Demand.{Completed, collapsed, divided, joined, Counts, Turn, going, kind, completed, one-more, tally, handed, tidied, found}
+use Rattle.front.specs.Demand.{Completed, collapsed, divided, joined, Counts, Stage, going, kind, completed, one-more, tally, handed, tidied, found}
 
 -- ---- the tally
 
@@ -41,7 +41,7 @@ unfolding tally
 tally-length [] = omega arith
 tally-length (e ∷ es) = one-length e (tally es) (length es) (tally-length es)
 
--- ---- a turn completes one event or none
+-- ---- a stage completes one event or none
 
 kind-one : (f : List Edge) (e : Event) → length (kind f e) ≤ 1
 unfolding kind
@@ -50,7 +50,7 @@ kind-one f Never = omega arith
 kind-one f (Collapse k step) = omega arith
 kind-one f (Split v e step) = omega arith
 
-pub completed-one : (t : Turn) → length (completed t) ≤ 1
+pub completed-one : (t : Stage) → length (completed t) ≤ 1
 unfolding completed
 completed-one t = by-test (λ (es : List Completed). length es ≤ 1) (going (t .to)) (λ q. kind-one ((tidied t) .edges) (found t)) (λ q. omega arith)
 

@@ -17,16 +17,17 @@ use Rattle.front.specs.declared.Length.the-variants.{NoLength, Long}
 use Rattle.front.specs.declared.Tidy.{Tidy}
 use Rattle.front.specs.declared.Tidy.the-variants.{Settled, SmallRing, Straight, Spike, Empty}
 use Rattle.front.specs.declared.Front.{Front}
-use Rattle.loops.specs.Loop.{rounds}
-use Rattle.front.specs.Edges.{edge, set-start, kill, remove, ring-len, vertex, altered, stalled, anchor-at, anchor, then-remove, collapse, edge-length}
+use Rattle.base.specs.Loop.{rounds}
+use Rattle.front.specs.Edges.{edge, edge-line, set-start, kill, remove, ring-len, vertex, altered, stalled, anchor-at, anchor, then-remove, collapse, edge-length}
 use Rattle.front.specs.Lines.{direction, meeting}
-use Rattle.front.specs.Tidying.{empty, tidy-length, opposed, same-way, tidy-turn, few, tidy-edge, tidy-at, unless-found, find-step, find-tidy, Drop, drop-on, drop-step, drop-ring, drop-straight, meeting-or, drop-both, spike-to, spike-from, drop-spike, tidy-by, tidy-once, tidy-step, tidy}
+use Rattle.front.specs.Tidying.{empty, tidy-length, opposed, same-way, tidy-corner, few, tidy-edge, tidy-at, unless-found, find-step, find-tidy, Drop, drop-on, drop-step, drop-ring, drop-straight, meeting-or, drop-both, spike-to}
+use Rattle.front.specs.Tidying.{spike-from, drop-spike, tidy-by, tidy-once, tidy-step, tidy}
 use Rattle.front.specs.Links.{Links, bit, links}
 use Rattle.front.proofs.Demand.Links
-use Rattle.front.proofs.Demand.Steps
-use Rattle.loops.proofs.Laws.{stays-to, rounds-keep}
-use Rattle.front.proofs.Demand.Choice.{by-test}
-use Rattle.front.proofs.Demand.Occ.{by-cases, occ-cons, same-eq}
+use Rattle.front.proofs.Demand.KeepsRings
+use Rattle.base.proofs.Laws.{stays-to, rounds-keep}
+use Rattle.base.proofs.Choices.{by-test, by-cases}
+use Rattle.base.proofs.Occurrences.{occ-cons, same-eq}
 use Rattle.front.proofs.Demand.Rings.{ring, edges}
 use Rattle.front.proofs.Demand.Total.{edges-le}
 use Rattle.front.proofs.Demand.Links.{Dropped, RingsOf, From, from, alone, ring-len-is, live-next}
@@ -60,14 +61,14 @@ module _ (f : List Edge) (t : Float) where
   at-length x NoLength a h = tt
   at-length x (Long l rate) a h = by-test Found (empty t l rate) (λ q. (a, h)) (λ q. tt)
 
-  at-turn : (x : ℕ) (u w : PlanarPoint) → links f .live x ≡ 1 → 3 ≤ ring-len f x → Found (tidy-turn f x t u w)
-  unfolding tidy-turn
-  at-turn x u w a h = by-test Found (opposed u w) (λ q. (a, h)) (λ q. by-test Found (same-way u w) (λ r. (a, h)) (λ r. at-length x (edge-length f x t) a h))
+  at-corner : (x : ℕ) (u w : PlanarPoint) → links f .live x ≡ 1 → 3 ≤ ring-len f x → Found (tidy-corner f x t u w)
+  unfolding tidy-corner
+  at-corner x u w a h = by-test Found (opposed u w) (λ q. (a, h)) (λ q. by-test Found (same-way u w) (λ r. (a, h)) (λ r. at-length x (edge-length f x t) a h))
 
   at-edge : (x : ℕ) (e : Edge) → links f .live x ≡ 1 → Found (tidy-edge f x t e)
   unfolding tidy-edge
   at-edge x e a = by-test Found (few (ring-len f x)) (λ q. (a, few-true (ring-len f x) q))
-      (λ q. at-turn x (direction (e .line)) (direction ((edge f (e .next)) .line)) a (few-false (ring-len f x) q))
+      (λ q. at-corner x (direction (edge-line e)) (direction (edge-line (edge f (e .next)))) a (few-false (ring-len f x) q))
 
   at-slot : (x : ℕ) → Found (tidy-at f x t (edge f x))
   unfolding tidy-at
@@ -114,17 +115,17 @@ module _ (f : List Edge) (t : Float) where
   -- a live edge at which nothing is found: its ring has three edges or more, and it and its next do not face opposite ways
   record Right (x : ℕ) : Type 0 where
     three : 3 ≤ ring-len f x
-    apart : opposed (direction ((edge f x) .line)) (direction ((edge f ((edge f x) .next)) .line)) ≡ false
+    apart : opposed (direction (edge-line (edge f x))) (direction (edge-line (edge f ((edge f x) .next)))) ≡ false
 
   right : find-tidy f t ≡ Settled → (x : ℕ) → links f .live x ≡ 1 → Right x
-  unfolding tidy-at tidy-edge tidy-turn is-settled
+  unfolding tidy-at tidy-edge tidy-corner is-settled
   right q x a = go ((edge f x) .alive) (alive-of ((edge f x) .alive) a) (few (ring-len f x)) refl (opposed u w) refl (settled-slots q x (live-in f x a))
     where
       u : PlanarPoint
-      u = direction ((edge f x) .line)
+      u = direction (edge-line (edge f x))
 
       w : PlanarPoint
-      w = direction ((edge f ((edge f x) .next)) .line)
+      w = direction (edge-line (edge f ((edge f x) .next)))
 
       rest : Tidy
       rest = cond (same-way u w) (Straight x) (tidy-length x t (edge-length f x t))
@@ -154,19 +155,19 @@ module _ (f : List Edge) (l : length f ≡ 128) (x : ℕ) where
   done-two : Drop
   done-two = record { edges = kill (kill f x) n; at = (edge (kill f x) n) .next; closed = true }
 
-  turn-one : n ≡ x → drop-step x 0 whole ≡ done-one
+  round-one : n ≡ x → drop-step x 0 whole ≡ done-one
   unfolding drop-step drop-on done-one
-  turn-one q = ap (λ (b : Bool). record { edges = kill f x; at = n; closed = b || not ((edge (kill f x) n) .alive) }) (eq-eqb n x q)
+  round-one q = ap (λ (b : Bool). record { edges = kill f x; at = n; closed = b || not ((edge (kill f x) n) .alive) }) (eq-eqb n x q)
 
-  turn-half : n ≢ x → (edge (kill f x) n) .alive ≡ true → drop-step x 0 whole ≡ half
+  round-half : n ≢ x → (edge (kill f x) n) .alive ≡ true → drop-step x 0 whole ≡ half
   unfolding drop-step drop-on half
-  turn-half d a =
+  round-half d a =
       ap (λ (b : Bool). record { edges = kill f x; at = n; closed = b || not ((edge (kill f x) n) .alive) }) (ne-eqb n x d)
       ∙ ap (λ (b : Bool). record { edges = kill f x; at = n; closed = not b }) a
 
-  turn-two : (edge (kill f x) n) .next ≡ x → drop-step x 1 half ≡ done-two
+  round-two : (edge (kill f x) n) .next ≡ x → drop-step x 1 half ≡ done-two
   unfolding drop-step drop-on half done-two
-  turn-two q =
+  round-two q =
       let g : List Edge = kill (kill f x) n in
       let m : ℕ = (edge (kill f x) n) .next in
       ap (λ (b : Bool). record { edges = g; at = m; closed = b || not ((edge g m) .alive) }) (eq-eqb m x q)
@@ -181,12 +182,12 @@ module _ (f : List Edge) (l : length f ≡ 128) (x : ℕ) where
 
   drop-is-one : n ≡ x → drop-ring f x ≡ kill f x
   unfolding drop-ring rounds done-one
-  drop-is-one q = ap (λ (s : Drop). s .edges) (stays-to (drop-step x) whole done-one 1 128 (omega arith) (turn-one q) stay-one)
+  drop-is-one q = ap (λ (s : Drop). s .edges) (stays-to (drop-step x) whole done-one 1 128 (omega arith) (round-one q) stay-one)
 
   drop-is-two : n ≢ x → (edge (kill f x) n) .alive ≡ true → (edge (kill f x) n) .next ≡ x → drop-ring f x ≡ kill (kill f x) n
   unfolding drop-ring rounds done-two
   drop-is-two d a q =
-      ap (λ (s : Drop). s .edges) (stays-to (drop-step x) whole done-two 2 128 (omega arith) (ap (drop-step x 1) (turn-half d a) ∙ turn-two q) stay-two)
+      ap (λ (s : Drop). s .edges) (stays-to (drop-step x) whole done-two 2 128 (omega arith) (ap (drop-step x 1) (round-half d a) ∙ round-two q) stay-two)
 
   -- what is left of a ring of one edge or two: nothing
   drop-dropped : x < 128 → n < 128 → links f .live n ≡ 1 → (edge f n) .next ≡ x → Dropped (links f) (links (drop-ring f x)) x × (length (drop-ring f x) ≡ 128)
@@ -246,7 +247,7 @@ spike-to-gone : (f : List Edge) (events bound x before : ℕ) (t : Float) (p : P
 unfolding spike-to stalled
 spike-to-gone f events bound x before t p k a h NoVertex = λ q. absurd (true≢false q)
 spike-to-gone f events bound x before t p k a h (Moving q w) =
-    both-gone f events bound x (meeting-or p q (meeting ((edge f before) .line) ((edge f ((edge f ((edge f x) .next)) .next)) .line) t)) t k a h
+    both-gone f events bound x (meeting-or p q (meeting (edge-line (edge f before)) (edge-line (edge f ((edge f ((edge f x) .next)) .next))) t)) t k a h
 
 spike-from-gone : (f : List Edge) (events bound x before : ℕ) (t : Float) (k : Kept f events bound) → links f .live x ≡ 1 → 3 ≤ ring-len f x → (v : Vertex)
     → Mended (spike-from f x before ((edge f x) .next) ((edge f ((edge f x) .next)) .next) t v) events bound (edges (k .held .rs))
@@ -259,7 +260,7 @@ small-gone : (f : List Edge) (events bound x : ℕ) (k : Kept f events bound) �
     → Less (drop-ring f x) events bound (edges (k .held .rs))
 small-gone f events bound x k a h =
     less-of (drop-ring f x) events bound (edges (k .held .rs))
-    (Steps.drop-ring 128 (links f) (links (drop-ring f x)) events bound x (k .held) a (omega (arith, ring-len-same f events bound x k a)) (gone .0))
+    (KeepsRings.drop-ring 128 (links f) (links (drop-ring f x)) events bound x (k .held) a (omega (arith, ring-len-same f events bound x k a)) (gone .0))
     (gone .1)
   where
     an : links f .live ((edge f x) .next) ≡ 1
@@ -363,7 +364,7 @@ tidied-of f t events bound k q = record {
 
 -- an edge and its next do not face opposite ways
 pub tidied-apart : (f : List Edge) (t : Float) (events bound : ℕ) → Tidied f t events bound → (x : ℕ) → links f .live x ≡ 1
-    → opposed (direction ((edge f x) .line)) (direction ((edge f ((edge f x) .next)) .line)) ≡ false
+    → opposed (direction (edge-line (edge f x))) (direction (edge-line (edge f ((edge f x) .next)))) ≡ false
 tidied-apart f t events bound T x a = right f t (T .settled) x a .apart
 
 -- tidying, where it is not stalled, ends with a step that changes nothing

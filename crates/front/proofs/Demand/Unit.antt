@@ -3,6 +3,7 @@ use lib.Ieee
 use mathlib.Core.Path.{_≡_, refl, sym, ap, _∙_, subst}
 use mathlib.Core.Logic.{_≢_}
 use mathlib.Core.Bool.{Bool, true, false, cond, _&&_, _||_, Bool·beq, true≢false}
+use mathlib.Mathlib.Data.Bool.Basic.{or-inr, and-intro}
 use Prim.Native.Nat.{ℕ, zero, suc, _+_, _-_, _*_, _/_, _^_, _≤_, _<_, compare, Ordering}
 use native.Mathlib.Omega.{arith}
 use native.Mathlib.Nat.{le-trans, le-of-eq, lt-of-lt-of-le, mul-le-mul, mul-le-mul-right, mul-pos, le-of-mul-le-mul-right, mul-right-comm, not-le-of-lt, div-lt-iff-lt-mul}
@@ -18,6 +19,7 @@ use lib.Ieee.Exact.{HasValue, odd-sign}
 use lib.Ieee.Nearest.{nearest-ge}
 use Rattle.math.specs.Number.{div, zero-float}
 use Rattle.hypotenuse.specs.Hypot.{whole-root, dropped, kept, round-root, count, hypot}
+use Rattle.hypotenuse.proofs.Whole.{four}
 use Rattle.front.proofs.Demand.Small.{Small, round-small}
 
 -- ---- the whole root: n is below the square of the next number
@@ -38,11 +40,6 @@ root-above (suc k) n h =
     let i : n / 4 < suc (whole-root k (n / 4)) * suc (whole-root k (n / 4)) = root-above k (n / 4) (omega arith) in
     next-digit n r (next n (n / 4) (whole-root k (n / 4)) (omega arith) i)
   where
-    four : (k : ℕ) → 2 ^ (2 * suc k) ≡ 4 * 2 ^ (2 * k)
-    four k =
-        let e : 2 * suc k ≡ suc (suc (2 * k)) = omega arith in
-        ap (λ (x : ℕ). 2 ^ x) e ∙ omega arith
-
     next : (n q r : ℕ) → n < 4 * q + 4 → q < suc r * suc r → n < (2 * r + 1 + 1) * (2 * r + 1 + 1)
     next n q r a b = omega arith
 
@@ -126,14 +123,14 @@ ratio a d n e l v x p h i q =
     le-of-mul-le-mul-right {k = l}
     (le-trans (le-of-eq (mul-right-comm a d l))
     (le-trans (mul-le-mul-right d (le-trans (lower (a * l) (suc x * e) h) (mul-le-mul-right e i)))
-    (le-of-eq (turn v e d ∙ ap (λ (y : ℕ). 2 * (y * e)) (sym q) ∙ back n l e))))
+    (le-of-eq (stage v e d ∙ ap (λ (y : ℕ). 2 * (y * e)) (sym q) ∙ back n l e))))
     p
   where
     lower : (y z : ℕ) → y < z → y ≤ z
     lower y z g = omega arith
 
-    turn : (v e d : ℕ) → (v + v) * e * d ≡ 2 * (v * d * e)
-    turn v e d = omega arith
+    stage : (v e d : ℕ) → (v + v) * e * d ≡ 2 * (v * d * e)
+    stage v e d = omega arith
 
     back : (n l e : ℕ) → 2 * (n * l * e) ≡ 2 * (n * e) * l
     back n l e = omega arith
@@ -158,17 +155,9 @@ above-zero t n d q z = true≢false (sym all ∙ q)
     nil : b ≡ 0
     nil = omega arith
 
-    or-true : (x y : Bool) → y ≡ true → (x || y) ≡ true
-    or-true true y h = refl
-    or-true false y h = h
-
-    and-true : (x y : Bool) → x ≡ true → y ≡ true → (x && y) ≡ true
-    and-true true y g h = h
-    and-true false y g h = g
-
     all : (lib.Ieee.below t a false b || (eqb a b && (Bool·beq t false || eqb a 0))) ≡ true
-    all = or-true (lib.Ieee.below t a false b) (eqb a b && (Bool·beq t false || eqb a 0))
-        (and-true (eqb a b) (Bool·beq t false || eqb a 0) (eq-eqb a b (none ∙ sym nil)) (or-true (Bool·beq t false) (eqb a 0) (eq-eqb a 0 none)))
+    all = or-inr (lib.Ieee.below t a false b) (eqb a b && (Bool·beq t false || eqb a 0))
+        (and-intro (eq-eqb a b (none ∙ sym nil)) (or-inr (Bool·beq t false) (eqb a 0) (eq-eqb a 0 none)))
 
 some-units : (v d n : ℕ) → n ≡ v * d → 0 < n → 0 < v
 some-units zero d n q h = absurd (omega arith)

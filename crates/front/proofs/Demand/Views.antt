@@ -10,13 +10,13 @@ use lib.Dec.{ltb}
 use lib.Ieee.{Float}
 use lib.ListN.{length, set, length-set}
 use lib.Seq.{getD-set-same, getD-set-other}
+use Rattle.base.proofs.Choices.{by-cases}
 use Rattle.plane.specs.declared.PlanarPoint.{PlanarPoint}
 use Rattle.front.specs.declared.Edge.{Edge}
-use Rattle.front.specs.Edges.{unused, blank, edge, with-next, with-previous, with-start, dead, set-next, set-previous, set-start, kill, unlinked, remove}
+use Rattle.front.specs.Edges.{unused, blank, edge, on-line-of, with-next, with-previous, with-start, dead, set-next, set-previous, set-start, kill, unlinked, remove}
 use Rattle.front.specs.Splitting.{copy-of, cut, split-linked}
 use Rattle.front.specs.Links.{bit, links, Out, Met, Stored}
 use Rattle.front.proofs.EdgeLaws.{edge-in, edge-out}
-use Rattle.front.proofs.Demand.Occ.{by-cases}
 use Rattle.front.proofs.Demand.Links.{Same}
 use Rattle.front.proofs.Demand.Sets.{SetNext, SetPrev, SetDead, Put, out-by-sets, met-by-sets}
 
@@ -74,25 +74,25 @@ module _ (f : List Edge) (l : length f ≡ 128) (s : ℕ) where
   A e = bit (e .alive)
 
   pub next-set : (v : ℕ) → s < 128 → SetNext (links f) (links (set-next f s v)) s v
-  unfolding set-next with-next
+  unfolding set-next with-next on-line-of
   next-set v h =
       let e : Edge = with-next (edge f s) v in
       record { nexts = anew N e h; prevs = keep P e refl; lives = keep A e refl }
 
   pub previous-set : (v : ℕ) → s < 128 → SetPrev (links f) (links (set-previous f s v)) s v
-  unfolding set-previous with-previous
+  unfolding set-previous with-previous on-line-of
   previous-set v h =
       let e : Edge = with-previous (edge f s) v in
       record { nexts = keep N e refl; prevs = anew P e h; lives = keep A e refl }
 
   pub dead-set : s < 128 → SetDead (links f) (links (kill f s)) s
-  unfolding kill dead
+  unfolding kill dead on-line-of
   dead-set h =
       let e : Edge = dead (edge f s) in
       record { nexts = keep N e refl; prevs = keep P e refl; lives = anew A e h }
 
   pub start-same : (p : PlanarPoint) (t : Float) → Same (links f) (links (set-start f s p t))
-  unfolding set-start with-start
+  unfolding set-start with-start on-line-of
   start-same p t =
       let e : Edge = with-start (edge f s) p t in
       record { nexts = keep N e refl; prevs = keep P e refl; lives = keep A e refl }
@@ -145,7 +145,7 @@ pub split-met : (f : List Edge) (v e s : ℕ) (p : PlanarPoint) (t : Float) → 
     → s < 128 → (edge f v) .previous < 128 → (edge f e) .next < 128 → e < 128 → v < 128
     → (edge f v) .previous ≢ s → (edge f e) .next ≢ s → e ≢ s → v ≢ s → (edge f v) .previous ≢ e → (edge f e) .next ≢ v
     → Met (links f) (links (split-linked f v e s ((edge f v) .previous) (edge f e) p t)) v e s
-unfolding split-linked cut copy-of
+unfolding split-linked cut copy-of on-line-of
 split-met f v e s p t l hs hb hn he hv bs ns es vs be nv =
     let before : ℕ = (edge f v) .previous in
     let after : ℕ = (edge f e) .next in

@@ -13,17 +13,17 @@ use Rattle.front.specs.declared.Loaded.{Loaded}
 use Rattle.front.specs.declared.Sweep.{Sweep}
 use Rattle.error.specs.declared.Refusal.{Refusal}
 use Rattle.error.specs.Refusals.{granted, number}
-use Rattle.loops.specs.Loop.{rounds}
+use Rattle.base.specs.Loop.{rounds}
 use Rattle.ring.specs.Ring.{vertex-at}
 use Rattle.front.specs.Loading.{load-ring, loaded-nothing, Loads, outer, hole}
 use Rattle.front.specs.Sweeps.{sweep-from, sweep-step, finished, offset-rings}
-use Rattle.front.specs.Demand.{Givens, givens, going, turns, run, tally, handed, FrontDemand}
+use Rattle.front.specs.Demand.{Givens, givens, going, stages, run, tally, handed, FrontDemand}
 use Rattle.front.specs.Velocity.{FrontVelocity}
 use Rattle.front.specs.LoadLaws.{LoadGranted, LoadRefused, RefusedCounts, FirstCounts}
 use Rattle.front.proofs.Demand.Rates.{Bounded, SmallPoint}
 use Rattle.front.proofs.Demand.Loading.{Load-is, load-law, load-none, Load-refusal, ring-refusal, none-refusal}
 use Rattle.front.proofs.Demand.Shapes.{Proper, proper-is, vertices, lines-sound}
-use Rattle.front.proofs.Demand.Turns.{rounds-done}
+use Rattle.front.proofs.Demand.Runs.{rounds-done}
 use Rattle.front.proofs.Demand.Shown.{holds, demand, velocity}
 
 -- what loading leaves of n edges in r rings
@@ -92,8 +92,8 @@ pub load-refused : LoadRefused
 load-refused d origin n r l w = well d origin n r l w .refusal
 
 -- nothing is made of a sweep that does not go on
-idle : (given : Givens) (s : Sweep) → going s ≡ false → (turns given 387 s ≡ []) × (finished (given .distance) (rounds (sweep-step (given .distance)) 387 s) ≡ s)
-unfolding turns finished
+idle : (given : Givens) (s : Sweep) → going s ≡ false → (stages given 387 s ≡ []) × (finished (given .distance) (rounds (sweep-step (given .distance)) 387 s) ≡ s)
+unfolding stages finished
 idle given s q = (rw q refl, ap (finished (given .distance)) (rounds-done given s 387 q) ∙ rw q refl)
 
 pub refused-counts : RefusedCounts

@@ -1,8 +1,8 @@
 -- `lizardwire::end_input` is safe. Assumes nothing.
 use borrow.Author.Needs.{needs}
 use denote.Ref.{now}
-use Rattle.wire.proofs.Answers.{counts-part}
-use Rattle.lizardwire.proofs.Turns.{last-writes}
+use Rattle.job_lines.proofs.LineAnswered.{counts-part}
+use Rattle.lizardwire.proofs.ProgramRounds.{last-writes}
 use Rattle.lizardwire.proofs.end_input.Statement.{statement}
 use Rattle.lizardwire.proofs.end_input.Tie as tie
 
@@ -11,14 +11,16 @@ finish-requires c κs = search needs
 
 slice-reshare-prefix-write-all : tie.Need-slice-reshare-prefix-write-all
 slice-reshare-prefix-write-all c =
+    let finish-gives = c .before .before .finish .ensures in
     let a = c .before .before .before .before .before .before .args in
-    let m = last-writes (now (a .held)) (a .count) (now (a .out)) _ (c .before .before .finish .ensures .0) _ (c .before .before .finish .ensures .1) in
+    let m = last-writes (now (a .held)) (a .count) (now (a .out)) _ (finish-gives .0) _ (finish-gives .1) in
     m
 
 slice-aggregate-write-all : tie.Need-slice-aggregate-write-all
 slice-aggregate-write-all c =
+    let finish-gives = c .before .before .before .finish .ensures in
     let a = c .before .before .before .before .before .before .before .args in
-    let m = last-writes (now (a .held)) (a .count) (now (a .out)) _ (c .before .before .before .finish .ensures .0) _ (c .before .before .before .finish .ensures .1) in
+    let m = last-writes (now (a .held)) (a .count) (now (a .out)) _ (finish-gives .0) _ (finish-gives .1) in
     counts-part _ _ m
 
 write-all-requires : tie.Need-write-all-requires

@@ -1,4 +1,4 @@
--- `lizardwire::read_all` is safe and ends: its turns fall. Assumes nothing.
+-- `lizardwire::read_all` is safe and ends: its rounds fall. Assumes nothing.
 use borrow.Author.Needs.{needs}
 use Prim.Native.Nat.{_≤_}
 use mathlib.Core.Path.{_≡_, refl}
@@ -7,18 +7,18 @@ use Rattle.lizardwire.proofs.read_all.Statement.{statement}
 use Rattle.lizardwire.proofs.read_all.Tie as tie
 
 abbrev Inv-loop : tie.InvT-loop
-Inv-loop block₀ held₀ out₀ count₀ turns₀ block held out count turns =
+Inv-loop block₀ held₀ out₀ count₀ rounds₀ block held out count rounds =
     (length block ≡ length block₀) × (length held ≡ length held₀) × (length out ≡ length out₀) × (count ≤ 16385)
     × (16385 ≤ length held) × (16385 ≤ length out)
 
 abbrev μ-loop : tie.MeasureT-loop
-μ-loop block₀ held₀ out₀ count₀ turns₀ block held out count turns = turns
+μ-loop block₀ held₀ out₀ count₀ rounds₀ block held out count rounds = rounds
 
 loop-holds : tie.Need-loop-holds Inv-loop μ-loop
 loop-holds c = (refl, refl, refl, search needs, search needs, search needs)
 
-sub-turns : tie.Need-sub-turns Inv-loop μ-loop
-sub-turns c = search needs
+sub-rounds : tie.Need-sub-rounds Inv-loop μ-loop
+sub-rounds c = search needs
 
 read-some-requires : tie.Need-read-some-requires Inv-loop μ-loop
 read-some-requires c κs = search needs
@@ -72,7 +72,7 @@ read-all-spec =
     Inv-loop
     μ-loop
     loop-holds
-    sub-turns
+    sub-rounds
     read-some-requires
     same-length
     same-length-2

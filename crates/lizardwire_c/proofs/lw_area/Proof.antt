@@ -10,12 +10,15 @@ vertices-requires c κs = search needs
 area-requires : tie.Need-area-requires
 area-requires c κs = search needs
 
-told-area-requires : tie.Need-told-area-requires
-told-area-requires c κs = search needs
+area-requires-2 : tie.Need-area-requires-2
+area-requires-2 c = search needs
 
 returns : tie.Need-returns
-returns c = simp (c .told-area .ensures, c .before .area .ensures, c .before .before .vertices .ensures)
+unfolding Exports.told-area
+returns c =
+    let area-gives = c .before .before .area .ensures in
+    let vertices-gives = c .before .before .before .vertices .ensures in
+    simp (c .area2 .ensures, area-gives, vertices-gives)
 
 pub lw-area-spec : {M : Type 1} → statement M
-lw-area-spec =
-    tie.close (tie.spec vertices-requires area-requires told-area-requires returns)
+lw-area-spec = tie.close (tie.spec vertices-requires area-requires area-requires-2 returns)

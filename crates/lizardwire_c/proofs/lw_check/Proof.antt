@@ -1,5 +1,5 @@
 -- `lizardwire_c::lw_check` meets its contract. Assumes nothing.
-use Rattle.direct.specs.Direct
+use Rattle.outline_lent.specs.Direct
 use Rattle.lizardwire_c.specs.Exports
 use borrow.Author.Needs.{needs}
 use Rattle.lizardwire_c.proofs.lw_check.Statement.{statement}
@@ -8,15 +8,12 @@ use Rattle.lizardwire_c.proofs.lw_check.Tie as tie
 check-outline-requires : tie.Need-check-outline-requires
 check-outline-requires c κs = search needs
 
-new-requires : tie.Need-new-requires
-new-requires c κs = search needs
-
-outline-answer-requires : tie.Need-outline-answer-requires
-outline-answer-requires c κs = search needs
+outline-requires : tie.Need-outline-requires
+outline-requires c κs = search needs
 
 returns : tie.Need-returns
 unfolding Exports.checked Direct.counted
-returns c = simp (c .outline-answer .ensures, c .before .new .ensures, c .before .before .check-outline .ensures)
+returns c = simp (c .outline .ensures, c .before .check-outline .ensures)
 
 pub lw-check-spec : {M : Type 1} → statement M
-lw-check-spec = tie.close (tie.spec check-outline-requires new-requires outline-answer-requires returns)
+lw-check-spec = tie.close (tie.spec check-outline-requires outline-requires returns)

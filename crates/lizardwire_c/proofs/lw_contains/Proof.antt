@@ -10,12 +10,15 @@ vertices-requires c κs = search needs
 contains-requires : tie.Need-contains-requires
 contains-requires c κs = search needs
 
-told-place-requires : tie.Need-told-place-requires
-told-place-requires c κs = search needs
+place-requires : tie.Need-place-requires
+place-requires c κs = search needs
 
 returns : tie.Need-returns
-returns c = simp (c .told-place .ensures, c .before .contains .ensures, c .before .before .vertices .ensures)
+unfolding Exports.told-place
+returns c =
+    let contains-gives = c .before .contains .ensures in
+    let vertices-gives = c .before .before .vertices .ensures in
+    simp (c .place .ensures, contains-gives, vertices-gives)
 
 pub lw-contains-spec : {M : Type 1} → statement M
-lw-contains-spec =
-    tie.close (tie.spec vertices-requires contains-requires told-place-requires returns)
+lw-contains-spec = tie.close (tie.spec vertices-requires contains-requires place-requires returns)

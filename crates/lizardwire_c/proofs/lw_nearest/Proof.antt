@@ -10,12 +10,15 @@ vertices-requires c κs = search needs
 nearest-requires : tie.Need-nearest-requires
 nearest-requires c κs = search needs
 
-told-nearest-requires : tie.Need-told-nearest-requires
-told-nearest-requires c κs = search needs
+nearest-requires-2 : tie.Need-nearest-requires-2
+nearest-requires-2 c = search needs
 
 returns : tie.Need-returns
-returns c = simp (c .told-nearest .ensures, c .before .nearest .ensures, c .before .before .vertices .ensures)
+unfolding Exports.told-nearest
+returns c =
+    let nearest-gives = c .before .before .nearest .ensures in
+    let vertices-gives = c .before .before .before .vertices .ensures in
+    simp (c .nearest2 .ensures, nearest-gives, vertices-gives)
 
 pub lw-nearest-spec : {M : Type 1} → statement M
-lw-nearest-spec =
-    tie.close (tie.spec vertices-requires nearest-requires told-nearest-requires returns)
+lw-nearest-spec = tie.close (tie.spec vertices-requires nearest-requires nearest-requires-2 returns)

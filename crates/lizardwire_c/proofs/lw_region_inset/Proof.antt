@@ -1,4 +1,5 @@
 -- `lizardwire_c::lw_region_inset` meets its contract. Assumes nothing.
+use Rattle.region_c.specs.Told
 use borrow.Author.Needs.{needs}
 use Rattle.lizardwire_c.proofs.lw_region_inset.Statement.{statement}
 use Rattle.lizardwire_c.proofs.lw_region_inset.Tie as tie
@@ -6,14 +7,17 @@ use Rattle.lizardwire_c.proofs.lw_region_inset.Tie as tie
 inset-into-requires : tie.Need-inset-into-requires
 inset-into-requires c κs = search needs
 
-told-inset-requires : tie.Need-told-inset-requires
-told-inset-requires c κs = search needs
+inset-requires : tie.Need-inset-requires
+inset-requires c κs = search needs
 
 same-length : tie.Need-same-length
 same-length c = search needs
 
 returns : tie.Need-returns
-returns c = (simp (c .told-inset .ensures, c .before .before .before .inset-into .ensures .0), c .before .before .before .inset-into .ensures .1)
+unfolding Told.told-inset
+returns c =
+    let w = c .before .before .before .before .inset-into .ensures in
+    (simp (c .inset .ensures, w .0), w .1)
 
 pub lw-region-inset-spec : {M : Type 1} → statement M
-lw-region-inset-spec = tie.close (tie.spec inset-into-requires told-inset-requires same-length returns)
+lw-region-inset-spec = tie.close (tie.spec inset-into-requires inset-requires same-length returns)

@@ -15,7 +15,10 @@ choose-requires-2 c κs = search needs
 
 returns : tie.Need-returns
 unfolding Number.fmin
-returns c = c .choose2 .ensures ∙ ap (cond (lt (c .before .before .args .x) (c .before .before .args .y)) (c .before .before .args .x)) (c .before .choose .ensures)
+returns c =
+    let args = c .before .before .args in
+    let choose-gives = c .before .choose .ensures in
+    c .choose2 .ensures ∙ ap (cond (lt (args .x) (args .y)) (args .x)) choose-gives
 
 pub min-spec : {M : Type 1} → statement M
 min-spec = tie.close (tie.spec choose-requires choose-requires-2 returns)

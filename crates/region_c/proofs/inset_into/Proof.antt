@@ -21,10 +21,19 @@ same-length : tie.Need-same-length
 same-length c = search needs
 
 returns : tie.Need-returns
-returns c = inset-yes _ _ (c .before .before .before .before .before .before .before .new .ensures .0) _ _ _ _ (sym (c .before .before .before .before .before .before .granted .ensures) ∙ c .before .before .before .before .before .if1 .taken) (c .before .before .inset-into .ensures .0) (c .before .before .inset-into .ensures .1)
+returns c =
+    let new-gives = c .before .before .before .before .before .before .before .new .ensures in
+    let granted-gives = c .before .before .before .before .before .before .granted .ensures in
+    let yes1 = c .before .before .before .before .before .if1 .taken in
+    let inset-into-gives = c .before .before .inset-into .ensures in
+    inset-yes _ _ (new-gives .0) _ _ _ _ (sym granted-gives ∙ yes1) (inset-into-gives .0) (inset-into-gives .1)
 
 returns-2 : tie.Need-returns-2
-returns-2 c = inset-no _ _ (c .before .before .before .new .ensures .0) _ _ _ (sym (c .before .before .granted .ensures) ∙ c .before .if1 .left) (c .inset-refused .ensures)
+returns-2 c =
+    let new-gives = c .before .before .before .new .ensures in
+    let granted-gives = c .before .before .granted .ensures in
+    let no1 = c .before .if1 .left in
+    inset-no _ _ (new-gives .0) _ _ _ (sym granted-gives ∙ no1) (c .inset-refused .ensures)
 
 pub inset-into-spec : {M : Type 1} → statement M
 inset-into-spec =

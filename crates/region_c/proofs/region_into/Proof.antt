@@ -1,6 +1,6 @@
 -- `region_c::region_into` meets its contract. Assumes nothing.
 use mathlib.Core.Path.{sym, _∙_}
-use Rattle.holes.specs.Given.{region-of}
+use Rattle.region.specs.Regions.{region-of}
 use Rattle.region_c.proofs.Made.{region-yes, region-no}
 use borrow.Author.Needs.{needs}
 use Rattle.region_c.proofs.region_into.Statement.{statement}
@@ -23,10 +23,21 @@ same-length c = search needs
 
 returns : tie.Need-returns
 unfolding region-of
-returns c = region-yes _ _ (c .before .before .before .before .before .before .before .before .before .before .before .before .before .before .before .before .new .ensures .0) _ _ _ (sym (c .before .before .before .before .before .before .before .before .before .before .before .before .before .before .before .granted .ensures) ∙ c .before .before .before .before .before .before .before .before .before .before .before .before .before .before .if1 .taken) (c .before .before .write-region .ensures .0) (c .before .before .write-region .ensures .1 .0)
+returns c =
+    let c8 = c .before .before .before .before .before .before .before .before in
+    let c16 = c8 .before .before .before .before .before .before .before .before in
+    let new-gives = c16 .new .ensures in
+    let granted-gives = c8 .before .before .before .before .before .before .before .granted .ensures in
+    let yes1 = c8 .before .before .before .before .before .before .if1 .taken in
+    let write-region-gives = c .before .before .write-region .ensures in
+    region-yes _ _ (new-gives .0) _ _ _ (sym granted-gives ∙ yes1) (write-region-gives .0) (write-region-gives .1 .0)
 
 returns-2 : tie.Need-returns-2
-returns-2 c = region-no _ _ (c .before .before .before .new .ensures .0) _ _ (sym (c .before .before .granted .ensures) ∙ c .before .if1 .left) (c .no-rings .ensures)
+returns-2 c =
+    let new-gives = c .before .before .before .new .ensures in
+    let granted-gives = c .before .before .granted .ensures in
+    let no1 = c .before .if1 .left in
+    region-no _ _ (new-gives .0) _ _ (sym granted-gives ∙ no1) (c .no-rings .ensures)
 
 pub region-into-spec : {M : Type 1} → statement M
 region-into-spec =

@@ -1,7 +1,8 @@
 -- `ring::number_at` meets its contract. Assumes nothing.
 use mathlib.Core.Path.{_∙_}
-use Rattle.ring.proofs.Vertices.{past-end}
 use borrow.Author.Needs.{needs}
+use lib.Ieee.{nan}
+use Rattle.base.proofs.Lists.{past-end}
 use Rattle.ring.proofs.number_at.Statement.{statement}
 use Rattle.ring.proofs.number_at.Tie as tie
 
@@ -18,7 +19,9 @@ returns : tie.Need-returns
 returns c = search needs
 
 returns-2 : tie.Need-returns-2
-returns-2 c = c .nan .ensures ∙ past-end (c .before .before .before .args .ps .now) (c .before .before .before .args .i) (search needs)
+returns-2 c =
+    let args = c .before .before .before .args in
+    c .nan .ensures ∙ past-end (args .ps .now) nan (args .i) (search needs)
 
 pub number-at-spec : {M : Type 1} → statement M
 number-at-spec =

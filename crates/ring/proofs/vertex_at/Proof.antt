@@ -57,7 +57,10 @@ unfolding Ring.vertex-at
 returns-2 c = cc
 
 returns-3 : tie.Need-returns-3
-returns-3 c = past-vertex (c .before .before .before .before .before .args .ps .now) (c .before .before .before .before .before .args .k) _ _ (search needs) (c .before .nan .ensures) (c .nan2 .ensures)
+returns-3 c =
+    let args = c .before .before .before .before .before .args in
+    let nan-gives = c .before .nan .ensures in
+    past-vertex (args .ps .now) (args .k) _ _ (search needs) nan-gives (c .nan2 .ensures)
 
 pub vertex-at-spec : {M : Type 1} → statement M
 vertex-at-spec =

@@ -11,7 +11,10 @@ apart-requires-2 : tie.Need-apart-requires-2
 apart-requires-2 c κs = search needs
 
 returns : tie.Need-returns
-returns c = across _ _ _ _ _ _ _ _ _ _ (c .before .before .apart .ensures) (c .before .apart2 .ensures) (c .if1 .taken)
+returns c =
+    let apart-gives = c .before .before .apart .ensures in
+    let apart2-gives = c .before .apart2 .ensures in
+    across _ _ _ _ _ _ _ _ _ _ apart-gives apart2-gives (c .if1 .taken)
 
 touches-requires : tie.Need-touches-requires
 touches-requires c κs = search needs
@@ -27,8 +30,14 @@ touches-requires-4 c κs = search needs
 
 returns-2 : tie.Need-returns-2
 returns-2 c =
-    at-ends _ _ _ _ _ _ _ _ _ _ (c .before .before .before .before .before .before .apart .ensures) (c .before .before .before .before .before .apart2 .ensures) (c .before .before .before .before .if1 .left) _ _ _ _
-    (c .before .before .before .touches .ensures) (c .before .before .touches2 .ensures) (c .before .touches3 .ensures) (c .touches4 .ensures)
+    let apart-gives = c .before .before .before .before .before .before .apart .ensures in
+    let apart2-gives = c .before .before .before .before .before .apart2 .ensures in
+    let no1 = c .before .before .before .before .if1 .left in
+    let touches-gives = c .before .before .before .touches .ensures in
+    let touches2-gives = c .before .before .touches2 .ensures in
+    let touches3-gives = c .before .touches3 .ensures in
+    at-ends _ _ _ _ _ _ _ _ _ _ apart-gives apart2-gives no1 _ _ _ _
+    touches-gives touches2-gives touches3-gives (c .touches4 .ensures)
 
 pub meet-by-spec : {M : Type 1} → statement M
 meet-by-spec =

@@ -14,7 +14,11 @@ is-straight-requires : tie.Need-is-straight-requires
 is-straight-requires c κs = search needs
 
 returns : tie.Need-returns
-returns c = on-line _ _ _ _ (c .before .before .before .within-box .ensures) (c .before .before .if1 .taken) _ (c .before .of-points .ensures) _ (c .is-straight .ensures)
+returns c =
+    let within-box-gives = c .before .before .before .within-box .ensures in
+    let yes1 = c .before .before .if1 .taken in
+    let of-points-gives = c .before .of-points .ensures in
+    on-line _ _ _ _ within-box-gives yes1 _ of-points-gives _ (c .is-straight .ensures)
 
 returns-2 : tie.Need-returns-2
 returns-2 c = out-of-box _ _ _ _ (c .before .within-box .ensures) (c .if1 .left)

@@ -14,21 +14,29 @@ surely-less-requires : tie.Need-surely-less-requires
 surely-less-requires c κs = search needs
 
 returns : tie.Need-returns
-returns c = let l = c .before .before .before in says-left _ _ _ (l .before .pre) _ _ (l .left-product .ensures) (c .before .before .right-product .ensures) _ (c .before .surely-less .ensures) (c .if1 .taken)
+returns c =
+    let right-product-gives = c .before .before .right-product .ensures in
+    let surely-less-gives = c .before .surely-less .ensures in
+    let l = c .before .before .before in says-left _ _ _ (l .before .pre) _ _ (l .left-product .ensures) right-product-gives _ surely-less-gives (c .if1 .taken)
 
 surely-less-requires-2 : tie.Need-surely-less-requires-2
 surely-less-requires-2 c κs = search needs
 
 returns-2 : tie.Need-returns-2
 returns-2 c =
+    let right-product-gives = c .before .before .before .before .right-product .ensures in
+    let surely-less2-gives = c .before .surely-less2 .ensures in
     let l = c .before .before .before .before .before in
-    says-right _ _ _ (l .before .pre) _ _ (l .left-product .ensures) (c .before .before .before .before .right-product .ensures) _ (c .before .surely-less2 .ensures) (c .if2 .taken)
+    says-right _ _ _ (l .before .pre) _ _ (l .left-product .ensures) right-product-gives _ surely-less2-gives (c .if2 .taken)
 
 flat-requires : tie.Need-flat-requires
 flat-requires c κs = search needs
 
 returns-3 : tie.Need-returns-3
-returns-3 c = says-straight _ _ _ (c .before .before .before .before .before .before .before .before .pre) _ (c .before .flat .ensures) (c .if3 .taken)
+returns-3 c =
+    let pre = c .before .before .before .before .before .before .before .before .pre in
+    let flat-gives = c .before .flat .ensures in
+    says-straight _ _ _ pre _ flat-gives (c .if3 .taken)
 
 returns-4 : tie.Need-returns-4
 returns-4 c = search needs

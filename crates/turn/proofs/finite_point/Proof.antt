@@ -15,7 +15,10 @@ finite-requires-2 c κs = search needs
 
 returns : tie.Need-returns
 unfolding finite-point
-returns c = ap (λ (x : Bool). x && c .finite2 .result) (c .before .finite .ensures) ∙ ap (λ (x : Bool). finite (c .before .before .args .p .east) && x) (c .finite2 .ensures)
+returns c =
+    let finite-gives = c .before .finite .ensures in
+    let args = c .before .before .args in
+    ap (λ (x : Bool). x && c .finite2 .result) finite-gives ∙ ap (λ (x : Bool). finite (args .p .east) && x) (c .finite2 .ensures)
 
 pub finite-point-spec : {M : Type 1} → statement M
 finite-point-spec = tie.close (tie.spec finite-requires finite-requires-2 returns)

@@ -14,11 +14,14 @@ inside-requires-2 c κs = search needs
 
 returns : tie.Need-returns
 unfolding inside-point
-returns c = (
-  ap (λ (x : Bool). x && c .inside2 .result) (c .before .inside .ensures .0)
-      ∙ ap (λ (x : Bool). inside (c .before .before .args .p .east) && x) (c .inside2 .ensures .0),
-  record { east-double = c .before .inside .ensures .1; north-double = c .inside2 .ensures .1 },
-)
+returns c =
+    let inside-gives = c .before .inside .ensures in
+    let args = c .before .before .args in
+    let inside2-gives = c .inside2 .ensures in (
+      ap (λ (x : Bool). x && c .inside2 .result) (inside-gives .0)
+          ∙ ap (λ (x : Bool). inside (args .p .east) && x) (inside2-gives .0),
+      record { east-double = inside-gives .1; north-double = inside2-gives .1 },
+    )
 
 pub inside-point-spec : {M : Type 1} → statement M
 inside-point-spec = tie.close (tie.spec inside-requires inside-requires-2 returns)

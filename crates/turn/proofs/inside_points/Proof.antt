@@ -20,10 +20,13 @@ three a b c e f g = rw (e, f, g) refl
 
 returns : tie.Need-returns
 unfolding inside-points
-returns c = (
-  three _ _ _ (c .before .before .inside-point .ensures .0) (c .before .inside-point2 .ensures .0) (c .inside-point3 .ensures .0),
-  (c .before .before .inside-point .ensures .1, (c .before .inside-point2 .ensures .1, c .inside-point3 .ensures .1)),
-)
+returns c =
+    let inside-point-gives = c .before .before .inside-point .ensures in
+    let inside-point2-gives = c .before .inside-point2 .ensures in
+    let inside-point3-gives = c .inside-point3 .ensures in (
+      three _ _ _ (inside-point-gives .0) (inside-point2-gives .0) (inside-point3-gives .0),
+      (inside-point-gives .1, (inside-point2-gives .1, inside-point3-gives .1)),
+    )
 
 pub inside-points-spec : {M : Type 1} → statement M
 inside-points-spec =

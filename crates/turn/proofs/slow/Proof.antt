@@ -29,7 +29,10 @@ of-finite-requires : tie.Need-of-finite-requires
 of-finite-requires c κs = all-finite _ _ _ (sym (tests (c .before)) ∙ c .if1 .taken)
 
 returns : tie.Need-returns
-returns c = finite-turn _ _ _ _ (sym (tests (c .before .before)) ∙ c .before .if1 .taken) (c .of-finite .ensures)
+returns c =
+    let past-here = c .before .before in
+    let yes1 = c .before .if1 .taken in
+    finite-turn _ _ _ _ (sym (tests past-here) ∙ yes1) (c .of-finite .ensures)
 
 returns-2 : tie.Need-returns-2
 returns-2 c = no-turn _ _ _ (sym (tests (c .before)) ∙ c .if1 .left)

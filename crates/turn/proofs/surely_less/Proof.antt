@@ -14,7 +14,10 @@ leads-requires-2 c κs = search needs
 
 returns : tie.Need-returns
 unfolding surely-less
-returns c = ap (λ (x : Bool). x || c .leads2 .result) (c .before .leads .ensures) ∙ ap (λ (x : Bool). leads (c .before .before .args .v) (c .before .before .args .w) || x) (c .leads2 .ensures)
+returns c =
+    let leads-gives = c .before .leads .ensures in
+    let args = c .before .before .args in
+    ap (λ (x : Bool). x || c .leads2 .result) leads-gives ∙ ap (λ (x : Bool). leads (args .v) (args .w) || x) (c .leads2 .ensures)
 
 pub surely-less-spec : {M : Type 1} → statement M
 surely-less-spec = tie.close (tie.spec leads-requires leads-requires-2 returns)

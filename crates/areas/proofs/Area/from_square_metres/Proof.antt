@@ -1,6 +1,6 @@
 -- `areas::Area::from_square_metres` meets its contract. Assumes nothing.
 use Rattle.areas.specs.Areas
-use Rattle.areas.proofs.Answers.{area-told}
+use Rattle.areas.proofs.RefusedArea.{area-told}
 use borrow.Author.Needs.{needs}
 use Rattle.areas.proofs.Area.from_square_metres.Statement.{statement}
 use Rattle.areas.proofs.Area.from_square_metres.Tie as tie
@@ -22,7 +22,12 @@ choose-requires-3 c κs = search needs
 
 returns : tie.Need-returns
 unfolding Areas.from-square-metres Areas.check-area
-returns c = rw (c .choose3 .ensures, c .before .granted .ensures, c .before .before .choose2 .ensures, c .before .before .before .finite .ensures, c .before .before .before .before .choose .ensures) (area-told _ _)
+returns c =
+    let granted-gives = c .before .granted .ensures in
+    let choose2-gives = c .before .before .choose2 .ensures in
+    let finite-gives = c .before .before .before .finite .ensures in
+    let choose-gives = c .before .before .before .before .choose .ensures in
+    rw (c .choose3 .ensures, granted-gives, choose2-gives, finite-gives, choose-gives) (area-told _ _)
 
 pub from-square-metres-spec : {M : Type 1} → statement M
 from-square-metres-spec =

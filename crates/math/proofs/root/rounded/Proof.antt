@@ -26,23 +26,38 @@ fourth-requires : tie.Need-fourth-requires
 fourth-requires c κs = search needs
 
 -- the root with the digits that were picked, a fourth of which is rounded
-picked : (c : tie.After-fourth) → Fourth (cond (ltb (c .before .before .before .args .root) (2 ^ 54)) (c .before .before .before .args .root * 2) (c .before .before .before .args .root)) (c .before .before .before .args .rest) (c .fourth .result)
-picked c = subst (λ (g : ℕ). Fourth g (c .before .before .before .args .rest) (c .fourth .result)) (c .before .before .pick .ensures) (c .fourth .ensures)
+picked : (c : tie.After-fourth) →
+    Fourth (cond (ltb (c .before .before .before .args .root) (2 ^ 54)) (c .before .before .before .args .root * 2)
+    (c .before .before .before .args .root)) (c .before .before .before .args .rest) (c .fourth .result)
+picked c =
+    let args = c .before .before .before .args in
+    let pick-gives = c .before .before .pick .ensures in
+    subst (λ (g : ℕ). Fourth g (args .rest) (c .fourth .result)) pick-gives (c .fourth .ensures)
 
 assemble-requires : tie.Need-assemble-requires
-assemble-requires c κs = (
-  subst (λ (k : ℕ). k ≤ 2046) (sym (c .before .pick2 .ensures)) (scale-le _ _ (c .before .before .before .args .rest) (c .fourth .result) (c .before .before .before .pre .1 .0) (c .before .before .before .pre .1 .1) (ltb (c .before .before .before .args .root) (2 ^ 54)) (c .before .before .before .pre .0)),
-  subst (Parts (c .fourth .result)) (sym (c .before .pick2 .ensures)) (parts-of _ _ (c .before .before .before .args .rest) (c .fourth .result) (c .before .before .before .pre .1 .0) (c .before .before .before .pre .1 .1) (ltb (c .before .before .before .args .root) (2 ^ 54)) refl (picked c)),
-)
+assemble-requires c κs =
+    let pick2-gives = c .before .pick2 .ensures in
+    let args = c .before .before .before .args in
+    let fourth-result = c .fourth .result in
+    let pre = c .before .before .before .pre in (
+      subst (λ (k : ℕ). k ≤ 2046) (sym pick2-gives) (scale-le _ _ (args .rest) fourth-result (pre .1 .0) (pre .1 .1) (ltb (args .root) (2 ^ 54)) (pre .0)),
+      subst (Parts fourth-result) (sym pick2-gives) (parts-of _ _ (args .rest) fourth-result (pre .1 .0) (pre .1 .1) (ltb (args .root) (2 ^ 54)) refl (picked c)),
+    )
 
 returns : tie.Need-returns
-returns c = (
-  c .assemble .ensures .0,
-  λ (s : ℕ) (w : Twice s (2 * c .before .before .before .before .args .x) (c .before .before .before .before .args .root) (c .before .before .before .before .args .rest)).
-      c .assemble .ensures .1
-      ∙ ap (units binary64 false (c .before .fourth .result)) (c .before .before .pick2 .ensures)
-      ∙ sym (rounded-of _ _ _ (c .before .fourth .result) (c .before .before .before .before .pre .1 .0) (c .before .before .before .before .pre .1 .1) (ltb (c .before .before .before .before .args .root) (2 ^ 54)) s refl (picked (c .before)) w),
-)
+returns c =
+    let assemble-gives = c .assemble .ensures in
+    let args = c .before .before .before .before .args in
+    let fourth-result = c .before .fourth .result in
+    let pick2-gives = c .before .before .pick2 .ensures in
+    let pre = c .before .before .before .before .pre in
+    let past-here = c .before in (
+      assemble-gives .0,
+      λ (s : ℕ) (w : Twice s (2 * args .x) (args .root) (args .rest)).
+          assemble-gives .1
+          ∙ ap (units binary64 false fourth-result) pick2-gives
+          ∙ sym (rounded-of _ _ _ fourth-result (pre .1 .0) (pre .1 .1) (ltb (args .root) (2 ^ 54)) s refl (picked past-here) w),
+    )
 
 pub rounded-spec : {M : Type 1} → statement M
 rounded-spec =

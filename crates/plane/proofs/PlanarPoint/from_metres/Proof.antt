@@ -1,6 +1,6 @@
 -- `plane::PlanarPoint::from_metres` meets its contract. Assumes nothing.
 use Rattle.plane.specs.Points
-use Rattle.plane.proofs.Answers.{point-told}
+use Rattle.plane.proofs.RefusedPoint.{point-told}
 use borrow.Author.Needs.{needs}
 use Rattle.plane.proofs.PlanarPoint.from_metres.Statement.{statement}
 use Rattle.plane.proofs.PlanarPoint.from_metres.Tie as tie
@@ -16,7 +16,10 @@ choose-requires c κs = search needs
 
 returns : tie.Need-returns
 unfolding Points.from-metres
-returns c = rw (c .choose .ensures, c .before .granted .ensures, c .before .before .check .ensures) (point-told _ _)
+returns c =
+    let granted-gives = c .before .granted .ensures in
+    let check-gives = c .before .before .check .ensures in
+    rw (c .choose .ensures, granted-gives, check-gives) (point-told _ _)
 
 pub from-metres-spec : {M : Type 1} → statement M
 from-metres-spec = tie.close (tie.spec check-requires granted-requires choose-requires returns)

@@ -17,7 +17,10 @@ field-at-requires : tie.Need-field-at-requires
 field-at-requires c κs = search needs
 
 float-to-bits-result : tie.Need-float-to-bits-result
-float-to-bits-result c = same-no-nan (c .before .before .before .before .args .x) (c .before .before .if1 .left)
+float-to-bits-result c =
+    let args = c .before .before .before .before .args in
+    let no1 = c .before .before .if1 .left in
+    same-no-nan (args .x) no1
 
 returns-3 : tie.Need-returns-3
 returns-3 c = search needs

@@ -35,7 +35,10 @@ pick-requires-5 : tie.Need-pick-requires-5
 pick-requires-5 c κs = search needs
 
 abbrev start : tie.After-pick5 → tie.Start
-start c = c .before .before .before .before .before .before .before .before .before .before
+start c =
+    let c8 = c .before .before .before .before .before .before .before .before in
+    let past-here = c8 .before .before in
+    past-here
 
 is : (c : tie.After-pick5) → c .pick5 .result ≡ digit-of (start c .args .p) (start c .args .k)
 unfolding digit-of

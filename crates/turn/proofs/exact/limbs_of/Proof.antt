@@ -26,14 +26,19 @@ exponent-requires c κs = search needs
 
 spread-requires : tie.Need-spread-requires
 spread-requires c κs =
+    let magnitude-gives = c .before .before .magnitude .ensures in
+    let significand-gives = c .before .significand .ensures in
     let start = c .before .before .before in
     parts-small (toBits binary64 (start .args .x)) _ _ _ (finite-magnitude (start .args .x) (held start) (start .pre))
-    (c .before .before .magnitude .ensures) (c .before .significand .ensures) (c .exponent .ensures)
+    magnitude-gives significand-gives (c .exponent .ensures)
 
 returns : tie.Need-returns
 returns c =
+    let magnitude-gives = c .before .before .before .magnitude .ensures in
+    let significand-gives = c .before .before .significand .ensures in
+    let exponent-gives = c .before .exponent .ensures in
     let start = c .before .before .before .before in
-    let w = limbs-law _ (toBits binary64 (start .args .x)) _ _ _ _ (c .before .before .before .magnitude .ensures) (c .before .before .significand .ensures) (c .before .exponent .ensures) (c .spread .ensures) in
+    let w = limbs-law _ (toBits binary64 (start .args .x)) _ _ _ _ magnitude-gives significand-gives exponent-gives (c .spread .ensures) in
     (placed (start .args .x) _ (held start) (start .pre) w, w .small)
 
 pub limbs-of-spec : {M : Type 1} → statement M

@@ -1,4 +1,0 @@
-pub mod Turns
-pub mod Loop
-pub mod Holds
-pub mod Sought

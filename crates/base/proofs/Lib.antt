@@ -1,0 +1,7 @@
+pub mod Laws
+pub mod Choices
+pub mod Tests
+pub mod Elements
+pub mod Sums
+pub mod Lists
+pub mod Occurrences

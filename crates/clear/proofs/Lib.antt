@@ -1,3 +1,0 @@
-pub mod Magnitudes
-pub mod Folds
-pub mod Walks

@@ -1,2 +1,0 @@
-pub mod Straight
-pub mod Unstored

@@ -1,4 +1,0 @@
-pub mod Leaves
-pub mod Search
-pub mod Turns
-pub mod Used

@@ -1,0 +1,9 @@
+pub mod NumbersRead
+pub mod SameBytes
+pub mod NumbersWritten
+pub mod FieldWalk
+pub mod WrittenFields
+pub mod FieldsJoined
+pub mod WrittenLists
+pub mod LineSizes
+pub mod LineRoom

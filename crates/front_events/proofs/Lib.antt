@@ -1,0 +1,4 @@
+pub mod Leaves
+pub mod Search
+pub mod SearchRounds
+pub mod Used

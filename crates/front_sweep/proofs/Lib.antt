@@ -1,0 +1,4 @@
+pub mod Stages
+pub mod Loop
+pub mod Holds
+pub mod Sought

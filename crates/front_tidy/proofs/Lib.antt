@@ -1,0 +1,4 @@
+pub mod Small
+pub mod Found
+pub mod Dropped
+pub mod TidyRounds

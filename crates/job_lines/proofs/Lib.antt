@@ -1,0 +1,5 @@
+pub mod Writable
+pub mod LineAnswered
+pub mod Puts
+pub mod BlockByLines
+pub mod Ends

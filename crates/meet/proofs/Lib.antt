@@ -1,2 +1,0 @@
-pub mod Meetings
-pub mod Exact

@@ -1,0 +1,3 @@
+pub mod Points
+pub mod Pairs
+pub mod FirstNotClear

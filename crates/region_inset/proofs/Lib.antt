@@ -1,0 +1,2 @@
+pub mod PiecesFound
+pub mod InsetIs

@@ -1,3 +1,0 @@
-pub mod Points
-pub mod Pairs
-pub mod Walks

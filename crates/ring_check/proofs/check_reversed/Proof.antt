@@ -1,0 +1,22 @@
+-- `ring_check::check_reversed` meets its contract. Assumes nothing.
+use Rattle.ring_check.specs.Checks
+use borrow.Author.Needs.{needs}
+use Rattle.ring_check.proofs.check_reversed.Statement.{statement}
+use Rattle.ring_check.proofs.check_reversed.Tie as tie
+
+check-simple-requires : tie.Need-check-simple-requires
+check-simple-requires c κs = search needs
+
+crossed-requires : tie.Need-crossed-requires
+crossed-requires c κs = search needs
+
+passed-requires : tie.Need-passed-requires
+passed-requires c κs = search needs
+
+returns : tie.Need-returns
+unfolding Checks.check-reversed
+returns c = cc
+
+pub check-reversed-spec : {M : Type 1} → statement M
+check-reversed-spec =
+    tie.close (tie.spec check-simple-requires crossed-requires passed-requires returns)

@@ -1,0 +1,6 @@
+pub mod Pairs
+pub mod Found
+pub mod SimpleExact
+pub mod Examples
+pub mod Meetings
+pub mod MeetExact

@@ -1,0 +1,5 @@
+pub mod Simple
+pub mod SimpleExact
+pub mod Examples
+pub mod Meet
+pub mod MeetExact

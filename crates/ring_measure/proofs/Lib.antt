@@ -1,0 +1,2 @@
+pub mod AreaWalk
+pub mod Extents

@@ -1,0 +1,57 @@
+-- `ring_measure::perimeter` meets its contract. Assumes nothing.
+use borrow.Author.Needs.{needs}
+use Prim.Native.Nat.{ℕ, _-_, _≤_}
+use mathlib.Core.Path.{_≡_, sym, ap, _∙_}
+use Rattle.base.specs.Loop.{rounds}
+use Rattle.base.proofs.Laws.{no-round, goes-on, ends}
+use Rattle.math.specs.Number.{zero-float, distance}
+use Rattle.ring_measure.specs.Measures
+use Rattle.ring_measure.proofs.perimeter.Statement.{statement}
+use Rattle.ring_measure.proofs.perimeter.Tie as tie
+
+abbrev Inv-loop : tie.InvT-loop
+Inv-loop ps n s₀ k₀ s k = (k ≤ n) × (s ≡ rounds (Measures.perimeter-step ps n) k zero-float)
+
+abbrev μ-loop : tie.MeasureT-loop
+μ-loop ps n s₀ k₀ s k = n - k
+
+loop-holds : tie.Need-loop-holds Inv-loop μ-loop
+loop-holds c = (search needs, sym (no-round _ _))
+
+perimeter-step-requires : tie.Need-perimeter-step-requires Inv-loop μ-loop
+perimeter-step-requires c κs = search needs
+
+add-k : tie.Need-add-k Inv-loop μ-loop
+add-k c = search needs
+
+loop-less : tie.Need-loop-less Inv-loop μ-loop
+loop-less c = search needs
+
+loop-again : tie.Need-loop-again Inv-loop μ-loop
+loop-again c =
+    let inv = c .before .before .loop .inv in
+    (search needs, goes-on _ _ _ _ _ (inv .1) (c .perimeter-step .ensures))
+
+distance-requires : tie.Need-distance-requires Inv-loop μ-loop
+distance-requires c κs = search needs
+
+returns : tie.Need-returns Inv-loop μ-loop
+unfolding Measures.perimeter
+returns c =
+    let inv = c .before .before .loop .inv in
+    let ended = c .before .loop-test .left in
+    c .distance .ensures ∙ ap distance (ends _ _ _ _ _ (inv .0) ended (inv .1))
+
+pub perimeter-spec : {M : Type 1} → statement M
+perimeter-spec =
+    tie.close
+    (tie.spec
+    Inv-loop
+    μ-loop
+    loop-holds
+    perimeter-step-requires
+    add-k
+    loop-less
+    loop-again
+    distance-requires
+    returns)

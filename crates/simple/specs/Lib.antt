@@ -1,3 +1,0 @@
-pub mod Simple
-pub mod Exact
-pub mod Examples

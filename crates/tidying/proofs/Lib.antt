@@ -1,5 +1,0 @@
-pub mod Turns
-pub mod Small
-pub mod Found
-pub mod Dropped
-pub mod Steps
