@@ -1,0 +1,1 @@
+// What is proved, restated in one file: specs/Promises.antt. No code.
