@@ -109,9 +109,9 @@ fn around(ring: &[f64], count: usize) -> Vec<(f64, f64)> {
 
 pub fn place_of(c: Containment) -> usize {
     match c {
-        Containment::Inside => 0,
+        Containment::Outside => 0,
         Containment::OnBoundary => 1,
-        Containment::Outside => 2,
+        Containment::Inside => 2,
     }
 }
 

@@ -297,12 +297,15 @@ fn contains(shape: &Shape, point: [f64; 2]) -> Vec<u64> {
     vec![number, whole, place_number(place)]
 }
 
-/// 0 inside, 1 on the boundary, 2 outside.
+/// Outside, and beside a refusal.
+pub(crate) const OUTSIDE: u64 = 0;
+
+/// 0 outside, 1 on the boundary, 2 inside.
 pub(crate) fn place_number(place: Containment) -> u64 {
     match place {
-        Containment::Inside => 0,
+        Containment::Outside => OUTSIDE,
         Containment::OnBoundary => 1,
-        Containment::Outside => 2,
+        Containment::Inside => 2,
     }
 }
 

@@ -4,7 +4,7 @@ use crate::answer::{
     bits, checked_distance, new_region, of_offset, rings_of, Refusal, Whole, HOLES, HOLE_ROOM, ROOM,
 };
 use crate::events;
-use crate::outlines::{carried, checked, number_and_whole, place_number, MAX_COORDINATE};
+use crate::outlines::{carried, checked, number_and_whole, place_number, MAX_COORDINATE, OUTSIDE};
 
 /// A region as numbers: ring lengths, the outer ring first, and coordinates.
 #[derive(Debug, Clone, PartialEq)]
@@ -178,12 +178,12 @@ pub fn asked(given: &Given, point: [f64; 2], changed: Changed) -> Vec<u64> {
     let region = made(given).ok();
     let region = region.filter(|region| Held::new(region).with(changed).proper());
     let Some(region) = region else {
-        return vec![21, 0, 2, 0, 0, 0, 21, 0, 0];
+        return vec![21, 0, OUTSIDE, 0, 0, 0, 21, 0, 0];
     };
     let p = checked(point);
     let [number, whole] = number_and_whole(p.as_ref().err());
     let (place, distance, foot) = match p {
-        Err(_) => (2, 0.0, [0.0; 2]),
+        Err(_) => (OUTSIDE, 0.0, [0.0; 2]),
         Ok(p) => (
             place_number(region.contains(p)),
             region.distance_to_boundary(p).metres(),

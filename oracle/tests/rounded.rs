@@ -47,7 +47,7 @@ fn the_choice() {
         assert_eq!(told(&[touching]), refused(1, 3));
         assert_eq!(Outline::oracle_orient(near, on, [24.0, 24.0]), 1.0);
         assert!(!straight(near, on, [24.0, 24.0]));
-        assert_eq!(place(slope, near), 0);
+        assert_eq!(place(slope, near), 2);
         assert_eq!(place(slope, on), 1);
         assert_eq!(Question::Fold([on, near, [1.0, 1.0]]).answer(), [0]);
         rows(true);
@@ -72,22 +72,22 @@ fn rows(exact: bool) {
         (
             &[[0.1, 0.4], [0.2, 0.4], [0.3, 0.2]],
             [0.2, 0.3],
-            pick(0, 1),
+            pick(2, 1),
         ),
         (
             &[[0.0, 0.4], [0.3, 0.1], [0.3, 0.0]],
             [0.2, 0.2],
-            pick(2, 1),
+            pick(0, 1),
         ),
         (
             &[[0.1, 0.2], [0.1, 0.4], [0.4, 0.7]],
             [0.2, 0.5],
-            pick(1, 0),
+            pick(1, 2),
         ),
         (
             &[[0.1, 0.2], [0.0, 0.2], [0.7, 0.6]],
             [0.4, 0.4],
-            pick(1, 2),
+            pick(1, 0),
         ),
     ];
     for (ring, point, there) in points {

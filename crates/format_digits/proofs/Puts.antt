@@ -8,7 +8,7 @@ use mathlib.Core.Path.{_≡_, refl, sym, ap, _∙_, subst}
 use mathlib.Core.List.{List, [], _∷_, _++_}
 use lib.Dec.{ltb}
 use lib.ListN.{getD, set, length, take, drop, take-append-drop}
-use lib.Seq.{sets, set-out, take-suc, length-sets, length-take-le, take-length, sets-eq}
+use lib.Seq.{sets, set-out, take-suc, length-sets, length-take-le, take-length, sets-eq, drop-set-lt}
 use borrow.Author.Tests.{ltb-true, ltb-false}
 use Rattle.format_digits.specs.Stores.{put}
 
@@ -40,6 +40,19 @@ put-front l bytes h = sets-eq bytes l 0 (subst (λ (n : ℕ). n ≤ length l) (s
   where
     zero-plus : (n : ℕ) → 0 + n ≡ n
     zero-plus n = omega arith
+
+-- behind them all is as it was
+pub put-behind : (l : List ℕ) (at : ℕ) (bytes : List ℕ) (n : ℕ) → at + length bytes ≤ n → drop n (put l at bytes) ≡ drop n l
+unfolding put
+put-behind l at [] n h = refl
+put-behind l at (b ∷ bytes) n h =
+    put-behind (set l at b) (suc at) bytes n (rest at (length bytes) n h) ∙ drop-set-lt n l at b (first at (length bytes) n h)
+  where
+    rest : (i m n : ℕ) → i + suc m ≤ n → suc i + m ≤ n
+    rest i m n h = omega arith
+
+    first : (i m n : ℕ) → i + suc m ≤ n → i < n
+    first i m n h = omega arith
 
 -- one more
 put-next : (l : List ℕ) (at : ℕ) (bytes : List ℕ) (k d : ℕ) → k < length bytes

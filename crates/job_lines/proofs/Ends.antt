@@ -1,6 +1,6 @@
 -- The end of the input writes what the machine then writes, and how a call ended is told apart. Assumes nothing.
 use Prim.Native.Nat.{ℕ, _+_, _≤_, _<_}
-use native.Mathlib.Nat.{le-trans, zero-add}
+use native.Mathlib.Nat.{le-refl, le-trans, zero-add}
 use native.Mathlib.Omega.{arith}
 use mathlib.Core.Bool.{Bool, true, false, cond, _&&_, false≢true}
 use mathlib.Mathlib.Data.Bool.Basic.{and-elim-left, and-elim-right}
@@ -12,7 +12,7 @@ use lib.ListN.{length, take, drop}
 use lib.Seq.{take-append-seam, length-take-le}
 use borrow.Author.Tests.{leb-true, leb-false, ltb-true, le-leb, eq-eqb, ne-eqb}
 use Rattle.format_digits.specs.Stores.{put}
-use Rattle.format_digits.proofs.Puts.{put-front}
+use Rattle.format_digits.proofs.Puts.{put-front, put-length, put-behind}
 use Rattle.job.specs.Stream.{answered, with-answer, ended-by, written}
 use Rattle.job_stream.specs.Feeding.{line-end, is-ended, most-held, Feed, machine, fed, how-ended}
 use Rattle.job_stream.specs.Progress.{NextUnfit}
@@ -194,3 +194,33 @@ finish-apart held count out =
       miscounted = λ h c. much-ends [] held count out h c _;
       enough = last-ends held count out;
     }
+
+-- ---- what the end of the input leaves alone
+
+module _ (held : List ℕ) (count : ℕ) (out : List ℕ) where
+  pub finish-size : length (finish-written held count out) ≡ length out
+  unfolding finish-written put-written
+  finish-size = go (last-line held count) (answer-fits (take count held) out 0)
+    where
+      go : (t u : Bool) → length (cond t (cond u (put out 0 (answered (take count held))) out) out) ≡ length out
+      go true true = put-length out 0 (answered (take count held))
+      go true false = refl
+      go false u = refl
+
+  pub finish-behind : drop ((finish-told held count out) .used) (finish-written held count out) ≡ drop ((finish-told held count out) .used) out
+  unfolding finish-told finished finish-written answer-put put-written
+  finish-behind = go (last-line held count) (answer-fits (take count held) out 0)
+    where
+      bytes : List ℕ
+      bytes = answered (take count held)
+
+      line : Bool → Put
+      line u = record { fits = u; used = cond u (0 + length bytes) 0; needed = length bytes }
+
+      none : Put
+      none = record { fits = holds held count; used = 0; needed = 0 }
+
+      go : (t u : Bool) → drop ((cond t (line u) none) .used) (cond t (cond u (put out 0 bytes) out) out) ≡ drop ((cond t (line u) none) .used) out
+      go true true = put-behind out 0 bytes (0 + length bytes) (le-refl (0 + length bytes))
+      go true false = refl
+      go false u = refl

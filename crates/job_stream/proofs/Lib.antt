@@ -1,3 +1,4 @@
 pub mod Machine
+pub mod Behind
 pub mod Parts
 pub mod Progress

@@ -1,5 +1,6 @@
 -- Demand 3 of what `lw_inset` and `lw_outset` hand back: its bounds, and the counts are those of the front's whole list of events. The same
--- of `lw_region_inset` is `RegionInsetTold` (region_c/specs/Counted.antt). Proved in `proofs/Counted.antt`. Assumes nothing.
+-- of `lw_region_inset` is `RegionInsetTold`, and of `lw_stored_region_inset` `StoredInsetTold` (region_c/specs/Counted.antt). Proved in
+-- `proofs/Counted.antt`. Assumes nothing.
 use mathlib.Core.Path.{_≡_}
 use mathlib.Core.Bool.{Bool, true, false}
 use mathlib.Core.List.{List}

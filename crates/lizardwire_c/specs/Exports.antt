@@ -1,5 +1,6 @@
 -- What the functions for C answer about an outline and a job line: what the proved functions answer, told as plain numbers. Of a region it
--- is in region_c/specs/Told.antt. Assumes nothing.
+-- is in region_c/specs/Told.antt, of a stream in stream_c/specs/Calls.antt. Assumes nothing.
+use Prim.Native.Nat.{ℕ}
 use mathlib.Core.Bool.{Bool, false, cond}
 use mathlib.Core.List.{List}
 use lib.ListN.{length}
@@ -15,15 +16,26 @@ use Rattle.offset.specs.Lent.{offset-write, written-offset}
 unfoldable pub use Rattle.outline_lent.specs.Direct.{outline-told, over-outline}
 use Rattle.outline_ask.specs.declared.Placed.{Placed}
 use Rattle.outline_ask.specs.declared.Neared.{Neared}
+use Rattle.outline_ask.specs.declared.Measured.{Measured}
+use Rattle.outline_ask.specs.declared.Footed.{Footed}
+use Rattle.outline_ask.specs.declared.Edged.{Edged}
 use Rattle.job_answer.specs.declared.Answered.{Answered}
 use Rattle.told.specs.declared.LwOutline.{LwOutline}
 use Rattle.told.specs.declared.LwPlace.{LwPlace}
 use Rattle.told.specs.declared.LwNearest.{LwNearest}
 use Rattle.told.specs.declared.LwArea.{LwArea}
+use Rattle.told.specs.declared.LwLength.{LwLength}
+use Rattle.told.specs.declared.LwPoint.{LwPoint}
+use Rattle.told.specs.declared.LwEdge.{LwEdge}
 use Rattle.told.specs.declared.LwOffset.{LwOffset}
 use Rattle.told.specs.declared.LwLine.{LwLine}
-use Rattle.told.specs.Told.{outline-answer, place-answer, nearest-answer, area-answer, offset-answer, line-answer}
+use Rattle.told.specs.Told.{outline-answer, place-answer, nearest-answer, area-answer, length-answer, point-answer, edge-answer}
+use Rattle.told.specs.Told.{offset-answer, line-answer}
 unfoldable pub use Rattle.told.specs.Told.{vertices}
+
+-- the number of the functions for C, LW_VERSION of the header: it goes up with every function that is added
+abbrev pub version : ℕ
+version = 1
 
 -- ---- the check of an outline, whose stored ring is written to lent output
 
@@ -44,6 +56,15 @@ told-nearest a = nearest-answer (carried (a .refusal)) (a .distance) (a .point)
 
 unfoldable pub told-area : NewArea → LwArea
 told-area a = area-answer (carried (a .refusal)) (a .area .value)
+
+unfoldable pub told-length : Measured → LwLength
+told-length a = length-answer (carried (a .refusal)) (a .value)
+
+unfoldable pub told-point : Footed → LwPoint
+told-point a = point-answer (carried (a .refusal)) (a .point)
+
+unfoldable pub told-edge : Edged → LwEdge
+told-edge a = edge-answer (carried (a .refusal)) (a .start) (a .end)
 
 -- ---- offsets of an outline handed in
 
@@ -67,5 +88,5 @@ told-line a = line-answer (a .refusal) (carried (a .refusal)) (a .count)
 
 -- opens every definition above, for a proof that computes with all of them
 unfoldable pub open-exports : Unit {0}
-unfolding checked told-outline told-place told-nearest told-area given told-offset told-line
+unfolding checked told-outline told-place told-nearest told-area told-length told-point told-edge given told-offset told-line
 open-exports = tt

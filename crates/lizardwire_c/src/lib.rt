@@ -4,10 +4,6 @@ ghost use mathlib.Core.Bool.{true, false};
 ghost use lib.ListN.{length};
 ghost use Rattle.hypotenuse.specs.Hypot;
 ghost use Rattle.outline.specs.Outlines;
-ghost use Rattle.region_c.specs.Told;
-ghost use Rattle.format.specs.Lines;
-ghost use Rattle.job.specs.AnswerLines;
-ghost use Rattle.job_answer.specs.Writing;
 ghost use Rattle.outline_ask.specs.Queries;
 ghost use Rattle.lizardwire_c.specs.Exports;
 use error::Carried;
@@ -16,22 +12,31 @@ use outline::store;
 use outline_ask::Neared;
 use outline_ask::Placed;
 use plane::PlanarPoint;
-use region::InsetWritten;
-use region::RegionWritten;
 use told::LwArea;
-use told::LwLine;
+use told::LwEdge;
+use told::LwLength;
 use told::LwNearest;
 use told::LwOffset;
 use told::LwOutline;
 use told::LwPlace;
-use told::LwRegion;
-use told::LwRegionOffset;
+use told::LwPoint;
+
+pub mod lines;
+pub mod regions;
 
 // The outline of the numbers of a shape handed in, as they are.
 pub(crate) fn given(numbers: &[f64]) -> Outline
     ensures { λ r. ⌜ r ≡ Exports.given (now (numbers .entry)) ⌝ }
 {
     store::stored_outline(numbers, told::vertices(numbers.len()), false)
+}
+
+// The version of the functions for C.
+#[no_mangle]
+pub extern "C" fn lw_version() -> usize
+    ensures { λ r. ⌜ r ≡ Exports.version ⌝ }
+{
+    1
 }
 
 // math::hypot.
@@ -112,6 +117,72 @@ pub extern "C" fn lw_area(outline: &[f64]) -> LwArea
     told::area(refusal, measure.value)
 }
 
+// The length of the boundary of an outline handed in: 21.
+#[no_mangle]
+pub extern "C" fn lw_perimeter(outline: &[f64]) -> LwLength
+    ensures { λ r. ⌜
+        r ≡ Exports.told-length (Queries.perimeter (now (outline .entry)) (Exports.vertices (length (now (outline .entry)))))
+        ⌝ }
+{
+    let a = outline_sizes::perimeter(outline, told::vertices(outline.len()));
+    let refusal = a.refusal;
+    told::length(refusal, a.value)
+}
+
+// The largest coordinate of an outline handed in, without its sign: 21.
+#[no_mangle]
+pub extern "C" fn lw_extent(outline: &[f64]) -> LwLength
+    ensures { λ r. ⌜
+        r ≡ Exports.told-length (Queries.extent (now (outline .entry)) (Exports.vertices (length (now (outline .entry)))))
+        ⌝ }
+{
+    let a = outline_sizes::extent(outline, told::vertices(outline.len()));
+    let refusal = a.refusal;
+    told::length(refusal, a.value)
+}
+
+// The clearance of the second outline from the first, both handed in: 21 of the first, then of the second.
+#[no_mangle]
+pub extern "C" fn lw_clearance<'a>(first: &'a [f64], second: &'a [f64]) -> LwLength
+    ensures { λ r. ⌜
+        r ≡ Exports.told-length (Queries.clearance (now (first .entry)) (Exports.vertices (length (now (first .entry))))
+        (now (second .entry)) (Exports.vertices (length (now (second .entry)))))
+        ⌝ }
+{
+    let n = told::vertices(first.len());
+    let m = told::vertices(second.len());
+    let a = outline_sizes::clearance(first, n, second, m);
+    let refusal = a.refusal;
+    told::length(refusal, a.value)
+}
+
+// Vertex k of an outline handed in: 21.
+#[no_mangle]
+pub extern "C" fn lw_vertex(outline: &[f64], k: usize) -> LwPoint
+    ensures { λ r. ⌜
+        r ≡ Exports.told-point (Queries.vertex (now (outline .entry)) (Exports.vertices (length (now (outline .entry)))) k)
+        ⌝ }
+{
+    let a = outline_ask::vertex(outline, told::vertices(outline.len()), k);
+    let refusal = a.refusal;
+    let point = a.point;
+    told::point(refusal, point)
+}
+
+// Edge k of an outline handed in: 21.
+#[no_mangle]
+pub extern "C" fn lw_edge(outline: &[f64], k: usize) -> LwEdge
+    ensures { λ r. ⌜
+        r ≡ Exports.told-edge (Queries.edge (now (outline .entry)) (Exports.vertices (length (now (outline .entry)))) k)
+        ⌝ }
+{
+    let a = outline_ask::edge(outline, told::vertices(outline.len()), k);
+    let refusal = a.refusal;
+    let start = a.start;
+    let end = a.end;
+    told::edge(refusal, start, end)
+}
+
 // The inset of an outline handed in, written to `out`: 21, 13, 14, what the offset answers, then 20.
 #[no_mangle]
 pub extern "C" fn lw_inset(outline: &[f64], distance: f64, out: &mut [f64]) -> LwOffset
@@ -132,56 +203,4 @@ pub extern "C" fn lw_outset(outline: &[f64], distance: f64, out: &mut [f64]) -> 
     let a = offset_run::offset_into(given(outline), true, distance, out);
     let refusal = a.refusal;
     told::offset(refusal, a.count, a.collapses, a.divides, a.joins)
-}
-
-// The region of these numbers, ring after ring, written to `out`: questions 1 to 12, then 20.
-#[no_mangle]
-pub extern "C" fn lw_region<'a>(
-    numbers: &'a [f64],
-    lengths: &'a [usize],
-    out: &'a mut [f64],
-) -> LwRegion
-    ensures answered { λ r. ⌜ r ≡ Told.lw-region (now (lengths .entry)) (now (numbers .entry)) (now (out .entry)) ⌝ }
-    ensures written { λ _. ⌜
-        now (out .exit) ≡ Told.lw-region-out (now (lengths .entry)) (now (numbers .entry)) (now (out .entry))
-        ⌝ }
-{
-    let w: RegionWritten = region_c::region_into(lengths, numbers, out);
-    let refusal = w.refusal;
-    let counts = w.counts;
-    told::region(refusal, w.rings, counts)
-}
-
-// The inset of the region of these numbers, written to `out`: questions 1 to 12, then 13 to 19, then 20.
-#[no_mangle]
-pub extern "C" fn lw_region_inset<'a>(
-    numbers: &'a [f64],
-    lengths: &'a [usize],
-    distance: f64,
-    out: &'a mut [f64],
-) -> LwRegionOffset
-    ensures answered { λ r. ⌜ r ≡ Told.lw-region-inset (now (lengths .entry)) (now (numbers .entry)) distance (now (out .entry)) ⌝ }
-    ensures written { λ _. ⌜
-        now (out .exit) ≡ Told.lw-region-inset-out (now (lengths .entry)) (now (numbers .entry)) distance (now (out .entry))
-        ⌝ }
-{
-    let w: InsetWritten = region_c::inset_into(lengths, numbers, distance, out);
-    let refusal = w.refusal;
-    let counts = w.counts;
-    told::inset(refusal, w.rings, counts, w.collapses, w.divides, w.joins)
-}
-
-// The answer line of a job line, both without LF, written to `out`: question 20 last. A refused job is an answer, too.
-#[no_mangle]
-pub extern "C" fn lw_job_line(line: &[u8], out: &mut [u8]) -> LwLine
-    ensures answered { λ r. ⌜
-        r ≡ Exports.told-line (Writing.bytes-answered (AnswerLines.answer-line (now (line .entry))) (now (out .entry)))
-        ⌝ }
-    ensures written { λ _. ⌜
-        now (out .exit) ≡ Lines.bytes-written (AnswerLines.answer-line (now (line .entry))) (now (out .entry))
-        ⌝ }
-{
-    let a = job_lines::answer_line(line, out);
-    let refusal = a.refusal;
-    told::line(refusal, a.count)
 }

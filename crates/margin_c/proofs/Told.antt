@@ -1,7 +1,6 @@
 -- The margin passes on to what the functions for C write. Assumes nothing.
 use Prim.Native.Nat.{ℕ}
 use mathlib.Core.Path.{_≡_, refl, sym, _∙_}
-use mathlib.Core.Logic.{inl}
 use mathlib.Core.Bool.{Bool, true, false, cond, false≢true}
 use mathlib.Core.List.{List}
 use borrow.Author.Tests.{eq-eqb}
@@ -15,17 +14,22 @@ use Rattle.math.specs.Number.{zero-float}
 use Rattle.margins.specs.Far.{over}
 use Rattle.outline.specs.declared.Outline.{Outline}
 use Rattle.outline.specs.Outlines.{proper, stored-outline}
-use Rattle.front.proofs.Demand.Shapes.{proper-is}
 use Rattle.offset.specs.Offsets.{offset}
 use Rattle.offset.specs.Lent.{offset-told, offset-write, written-offset}
+use Rattle.region.specs.declared.Region.{Region}
 use Rattle.region.specs.declared.NewRegion.{NewRegion}
 use Rattle.region.specs.declared.InsetWritten.{InsetWritten}
+use Rattle.region.specs.Regions.{region-extent}
 use Rattle.region.specs.Checks.{region}
 use Rattle.region.specs.Queries.{inset-write, written-inset}
+use Rattle.region.specs.Answers.{ProperNewRegion}
+use Rattle.region.proofs.Loaded.{region-again}
+use Rattle.region_stored.specs.Stored.{stored-region}
+use Rattle.region_stored.proofs.Again.{stored-again}
 use Rattle.told.specs.Told.{vertices, offset-answer, inset-answer}
 use Rattle.region_c.specs.Told.{told-inset, inset-refused, inset-made, inset-over}
 use Rattle.lizardwire_c.specs.Exports.{given, told-offset}
-use Rattle.margin.specs.Margin.{Doubles, largest-of}
+use Rattle.margin.specs.Margin.{Doubles, largest-of, RegionDoubles}
 use Rattle.margin.specs.Lent.{ring-in}
 use Rattle.margin.specs.Drawn.{DrawnMargin, DrawnRings}
 use Rattle.margin.proofs.Extents.{largest-is}
@@ -33,9 +37,10 @@ use Rattle.margin.proofs.DoublesKept.{outline-doubles}
 use Rattle.margin.proofs.Outlines.{source-proper}
 use Rattle.margin.proofs.Lent.{wrote-offset, offset-write-margin, inset-write-margin}
 use Rattle.margin.proofs.Stands.{Stands, drawn-far, drawn-largest}
-use Rattle.margin.proofs.Drawn.{stored-vertices}
-use Rattle.margin.proofs.DrawnRings.{region-stands, region-drawn}
-use Rattle.margin_c.specs.Told.{LwInsetMargin, LwRegionInsetMargin}
+use Rattle.margin.proofs.RegionExtents.{region-largest-is}
+use Rattle.margin.proofs.DrawnRings.{RegionStands, drawn-rings, region-stands}
+use Rattle.margin_c.specs.Told.{LwInsetMargin, LwRegionInsetMargin, LwStoredInsetMargin}
+use Rattle.margin_c.proofs.StoredRings.{stored-stands, stored-region-stands}
 
 -- the number told is 0 where nothing is refused
 told-granted : (u : Refusal) → (carried u) .question ≡ 0 → granted u ≡ true
@@ -43,11 +48,6 @@ unfolding carried carried-of told granted number
 told-granted u e = eq-eqb ((values u) .question) 0 e
 
 -- ---- an outline is stored as it was handed in
-
-stored-stands : (ps : List Float) (n : ℕ) → proper 128 ((stored-outline ps n false) .points) n ≡ true → Stands ((stored-outline ps n false) .points) n ps n
-stored-stands ps n h =
-    let p = proper-is 128 ((stored-outline ps n false) .points) n h in
-    record { back = false; some = p .three; left = inl refl; each = stored-vertices ps n false (p .fits) }
 
 module _ (ps : List Float) (n : ℕ) (d : Float) (out : List Float) (pd : Doubles ps) (fd : T (fits binary64 d)) (l : lt zero-float d ≡ true) where
   abbrev o : Outline
@@ -77,21 +77,30 @@ module _ (lengths : List ℕ) (ps : List Float) (d : Float) (out : List Float) (
   record Keeps (w : InsetWritten) (now : List Float) : Type 0 where
     keeps : granted (w .refusal) ≡ true → DrawnRings d lengths ps (w .rings) (ring-in (w .counts) now) (λ k. getD (w .counts) k 0)
 
-  abbrev a : NewRegion
-  a = region lengths ps
-
-  made : Keeps (inset-made a d out) (inset-over a d out)
+  -- a region that was made of these rings
+  made : (a : NewRegion) → (granted (a .refusal) ≡ true → RegionStands lengths ps (a .shape)) → ProperNewRegion a → Keeps (inset-made a d out) (inset-over a d out)
   unfolding inset-made inset-over inset-refused
-  made = go (granted (a .refusal)) refl
+  made a stands again = go (granted (a .refusal)) refl
     where
       go : (b : Bool) → granted (a .refusal) ≡ b → Keeps (cond b (inset-write (a .shape) d out) (inset-refused (a .refusal))) (cond b (written-inset (a .shape) d out) out)
-      go true g = record {
-        keeps = λ q.
-            region-drawn lengths ps pd g d ((inset-write (a .shape) d out) .rings) (ring-in ((inset-write (a .shape) d out) .counts) (written-inset (a .shape) d out))
-            (λ k. getD ((inset-write (a .shape) d out) .counts) k 0) (inset-write-margin (a .shape) d out (region-stands lengths ps g .doubles pd) fd q l);
-      }
+      go true g =
+          let r : Region = a .shape in
+          let w : InsetWritten = inset-write r d out in
+          let rd : RegionDoubles r = stands g .doubles pd in
+          record {
+            keeps = λ q.
+                drawn-rings lengths ps r (stands g) (over (region-extent r)) pd (region-largest-is r rd (again .proper g)) d (w .rings) (ring-in (w .counts) (written-inset r d out))
+                (λ k. getD (w .counts) k 0) (inset-write-margin r d out rd fd q l);
+          }
       go false g = record { keeps = λ q. absurd (false≢true (sym g ∙ q)) }
 
 pub lw-region-inset-margin : LwRegionInsetMargin
 unfolding told-inset inset-answer
-lw-region-inset-margin lengths ps d out pd fd e l = made lengths ps d out pd fd l .keeps (told-granted ((inset-made (region lengths ps) d out) .refusal) e)
+lw-region-inset-margin lengths ps d out pd fd e l =
+    made lengths ps d out pd fd l (region lengths ps) (region-stands lengths ps) (region-again .loaded lengths ps) .keeps (told-granted ((inset-made (region lengths ps) d out) .refusal) e)
+
+pub lw-stored-inset-margin : LwStoredInsetMargin
+unfolding told-inset inset-answer
+lw-stored-inset-margin lengths ps d out pd fd e l =
+    made lengths ps d out pd fd l (stored-region lengths ps) (stored-region-stands lengths ps) (stored-again lengths ps) .keeps
+    (told-granted ((inset-made (stored-region lengths ps) d out) .refusal) e)

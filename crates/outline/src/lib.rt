@@ -9,6 +9,7 @@ pub mod store;
 use error::Refusal;
 
 // An outline: its first `count` vertices, counter-clockwise; the rest is 0.
+#[repr(C)]
 pub struct Outline {
     pub points: [f64; 256],
     pub count: usize,

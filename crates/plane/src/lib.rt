@@ -6,6 +6,7 @@ ghost use Rattle.plane.specs.Points;
 use error::Refusal;
 
 // A point of the plane, or a vector.
+#[repr(C)]
 pub struct PlanarPoint {
     pub east: f64,
     pub north: f64,

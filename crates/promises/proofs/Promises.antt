@@ -5,8 +5,8 @@ use mathlib.Core.Path.{_≡_, refl, sym, ap, _∙_, subst}
 use mathlib.Core.Logic.{inl, inr}
 use mathlib.Core.Bool.{Bool, true, false, cond, _&&_, false≢true, true≢false}
 use mathlib.Core.List.{List, [], _∷_, _++_}
-use borrow.Author.Tests.{ltb-true, eqb-true, eqb-false, le-leb, lt-leb, eq-eqb, ne-eqb}
-use lib.Dec.{leb, eqb}
+use borrow.Author.Tests.{ltb-true, lt-ltb, eqb-true, eqb-false, le-leb, lt-leb, eq-eqb, ne-eqb}
+use lib.Dec.{leb, ltb, eqb}
 use lib.ListN.{getD, length, take, drop}
 use lib.Ieee.{Float, nan, inf, fin, le, fits}
 use Rattle.error.specs.declared.Refusal.{Refusal}
@@ -22,7 +22,7 @@ use Rattle.hypotenuse.proofs.Correct.{hypot-is-nearest}
 use Rattle.math.specs.Number.{zero-float, finite, abs}
 use Rattle.plane.specs.declared.PlanarPoint.{PlanarPoint}
 use Rattle.plane.specs.declared.Containment.{Containment}
-use Rattle.plane.specs.declared.Containment.the-variants.{Outside}
+use Rattle.plane.specs.declared.Containment.the-variants.{Inside, OnBoundary, Outside}
 use Rattle.plane.specs.declared.NewPoint.{NewPoint}
 use Rattle.plane.specs.Points.{origin, point-if, from-metres}
 use Rattle.base.specs.Loop.{rounds}
@@ -50,6 +50,7 @@ use Rattle.outline_ask.specs.declared.Measured.{Measured}
 use Rattle.outline_ask.specs.declared.Footed.{Footed}
 use Rattle.outline_ask.specs.declared.Neared.{Neared}
 use Rattle.outline_ask.specs.declared.Edged.{Edged}
+use Rattle.outline_ask.specs.Queries as Query
 use Rattle.outline_ask.specs.Queries.{placed, measured, footed, neared, edged, contains, nearest, area}
 use Rattle.outline_lent.specs.Writes.{write-ring, ring-write, written-ring}
 use Rattle.front.specs.declared.Edge.{Edge}
@@ -73,11 +74,12 @@ use Rattle.region.specs.declared.Region.{Region}
 use Rattle.region.specs.declared.NewRegion.{NewRegion}
 use Rattle.region.specs.declared.RegionOffset.{RegionOffset}
 use Rattle.region.specs.declared.RegionWritten.{RegionWritten}
+use Rattle.region.specs.declared.InsetWritten.{InsetWritten}
 use Rattle.region.specs.Regions.{no-region, hole-points, hole-count, ring-points, ring-count}
-use Rattle.region.specs.Checks.{region-refused, load-rings, region-loaded, total-step, total, region-finite, region, proper-step, proper-region}
+use Rattle.region.specs.Checks.{check-region, region-refused, region-if, load-rings, region-loaded, total-step, total, region-finite, region, proper-step, proper-region}
 use Rattle.region.specs.Insets.{region-plain, region-inset}
 use Rattle.region.specs.Queries.{no-rings, rings-told, write-region, region-write, written-region, write-inset, inset-told}
-use Rattle.region.specs.Queries.{region-contains, read-outline, inset-write, written-inset}
+use Rattle.region.specs.Queries.{ask-region, region-contains, region-area, region-perimeter, read-outline, region-outer, region-hole, inset-write, written-inset}
 use Rattle.region.specs.Answers.{EmptyRegion, RingsWrote}
 use Rattle.region.proofs.Demand.{region-demand}
 use Rattle.region.proofs.DemandAnswered.{inset-demand, region-empty, inset-empty, inset-before}
@@ -104,6 +106,8 @@ use Rattle.job_answer.specs.Writing.{writable, bytes-answered, answer-written}
 use Rattle.format_digits.specs.Stores.{put}
 use Rattle.format_job.specs.Reads.{parse-refusal, unparsed, parsed-all, answered-by, parse-answered, front-written, lengths-written}
 use Rattle.format_job.specs.Reads.{coordinates-written}
+use Rattle.outline_lent.specs.declared.direct.Counted.{Counted}
+use Rattle.outline_lent.specs.Direct
 use Rattle.outline_lent.specs.Direct.{outline-told, over-outline}
 use Rattle.job_stream.specs.declared.Outcome.{Outcome}
 use Rattle.job_stream.specs.Feeding.{Feed, fed, outcome-refusal}
@@ -112,10 +116,21 @@ use Rattle.job_stream.proofs.Progress as Progress
 use Rattle.job_lines.specs.Wire.{answer-fits, put-written, held-of, out-of, holds, stuck, stream-fed, feed-as, feed-told, last-line}
 use Rattle.job_lines.specs.Wire.{finish-written, finish-told, FinishedBy}
 use Rattle.job_lines.proofs.Ends.{finishes, ends-apart, finish-apart}
-use Rattle.told.specs.Told.{outline-answer, offset-answer, region-answer, inset-answer, line-answer}
-use Rattle.region_c.specs.Told.{told-region, region-made, region-over, inset-refused, told-inset, inset-made, inset-over}
-use Rattle.region_c.proofs.Counted.{region-inset-told}
-use Rattle.lizardwire_c.specs.Exports.{given, checked, told-outline, told-offset, told-line}
+use Rattle.stream_c.proofs.Streamed.{made-tells, made-keeps, made-passes, feed-keeps, finish-keeps, feed-leaves, finish-leaves, feed-judges, finish-judges, feeds-on, feeds-enough}
+use Rattle.stream_c.proofs.Streamed.{finishes-on, any-stream}
+use Rattle.told.specs.Told.{outline-answer, place-answer, place-number, nearest-answer, area-answer, length-answer, point-answer, edge-answer, offset-answer, region-answer, inset-answer, line-answer}
+use Rattle.region_ask.specs.Boundary.{neared-at, region-nearest}
+use Rattle.region_ask.proofs.Both.{region-nearest-parts}
+use Rattle.region_stored.specs.Stored.{kept, rings, stored-region, given-region}
+use Rattle.region_stored.specs.Rewritten.{SameRings, handed-back}
+use Rattle.region_stored.proofs.Again.{stored-asked}
+use Rattle.region_stored.proofs.AsStored.{stored-as-handed, given-as-handed}
+use Rattle.region_stored.proofs.AsOutlines.{given-outlines, given-alone}
+use Rattle.region_stored.proofs.Rewritten.{written-again, inset-again}
+use Rattle.region_c.specs.Told.{told-region, region-made, region-over, inset-refused, told-inset, inset-made, inset-over, region-told, alone, told-ring, told-measure}
+use Rattle.region_c.specs.Told.{hole-told, hole-over}
+use Rattle.region_c.proofs.Counted.{region-inset-told, stored-inset-told}
+use Rattle.lizardwire_c.specs.Exports.{given, checked, told-outline, told-place, told-nearest, told-area, told-length, told-point, told-edge, told-offset, told-line}
 use Rattle.lizardwire_c.proofs.Counted as Counted
 use Rattle.margin.specs.Margin.{Largest, LargestOfRings}
 use Rattle.margin.specs.Drawn.{DrawnMargin, DrawnRings}
@@ -130,7 +145,7 @@ use Rattle.margin.proofs.Given.{region-given-margin}
 use Rattle.margin.proofs.Jobs.{job-margin}
 use Rattle.margin.proofs.Lent.{few-holes, offset-write-margin, inset-write-margin}
 use Rattle.margin.proofs.Meeting.{outline-meets-not, offset-meets-not, inset-meets-not}
-use Rattle.margin_c.proofs.Told.{lw-inset-margin, lw-region-inset-margin}
+use Rattle.margin_c.proofs.Told.{lw-inset-margin, lw-region-inset-margin, lw-stored-inset-margin}
 use Rattle.examples.specs.Table.{table}
 use Rattle.examples.proofs.Examples as Examples
 use Rattle.promises.proofs.OneLine.{one-a-line}
@@ -206,6 +221,20 @@ no-rings-left r e = (no-vertices (r .outer) (e .outer), e .holes, e .counts, e .
 empty-region : NoRegion no-region
 unfolding no-region no-outline
 empty-region = ((refl, refl), refl, refl, refl)
+
+no-stored : (lengths : List ℕ) (ps : List Float) → let a = stored-region lengths ps in Refused (a .refusal) → (a .refusal ≡ Shape) × NoRegion (a .shape)
+unfolding stored-region region-refused granted number values
+no-stored lengths ps =
+    by-test (λ (a : NewRegion). Refused (a .refusal) → (a .refusal ≡ Shape) × NoRegion (a .shape)) (kept lengths ps && leb (length lengths) 9)
+    (λ g h. absurd (true≢false h)) (λ g h. (refl, empty-region))
+
+no-outlines : (lengths : List ℕ) (ps : List Float) → let a = given-region lengths ps in Refused (a .refusal) → NoRegion (a .shape)
+unfolding given-region region-if region-refused granted number values
+no-outlines lengths ps =
+    let P : NewRegion → Type 0 = λ (a : NewRegion). Refused (a .refusal) → NoRegion (a .shape) in
+    by-test P (kept lengths ps)
+    (λ k. by-test P (granted (check-region (rings lengths ps))) (λ g h. absurd (true≢false h)) (λ g h. empty-region))
+    (λ k h. empty-region)
 
 -- values beside a refusal
 
@@ -326,6 +355,93 @@ lw-outline o out h =
     let g = refused-by (outline-told o out) h in
     (ap (λ (b : Bool). cond b (o .shape .count) 0) g, outline-kept o out g)
 
+granted-by : (u : Refusal) → (carried u) .question ≡ 0 → granted u ≡ true
+unfolding carried carried-of told granted number
+granted-by u h = eq-eqb ((values u) .question) 0 h
+
+only-outside : (c : Containment) → place-number c ≡ 0 → c ≡ Outside
+unfolding place-number
+only-outside Outside h = refl
+only-outside OnBoundary h = absurd (omega (arith, h))
+only-outside Inside h = absurd (omega (arith, h))
+
+lw-inside : (u : Refusal) (c : Containment) → ((told-place (placed u c)) .place ≡ 0 → ⊥) →
+    ((told-place (placed u c)) .refusal ≡ 0) × (c ≡ Outside → ⊥)
+unfolding told-place place-answer place-number placed carried carried-of told values
+lw-inside u c =
+    by-test (λ (a : Placed). ((told-place a) .place ≡ 0 → ⊥) → ((told-place a) .refusal ≡ 0) × (c ≡ Outside → ⊥)) (granted u)
+    (λ g h. (refl, λ e. h (ap place-number e))) (λ g h. absurd (h refl))
+
+lw-outside : (u : Refusal) (c : Containment) → (told-place (placed u c)) .place ≡ 0 → (told-place (placed u c)) .refusal ≡ 0 → c ≡ Outside
+unfolding told-place place-answer place-number placed
+lw-outside u c =
+    by-test (λ (a : Placed). (told-place a) .place ≡ 0 → (told-place a) .refusal ≡ 0 → c ≡ Outside) (granted u)
+    (λ g h e. only-outside c h) (λ g h e. absurd (true≢false (sym (granted-by u e) ∙ g)))
+
+only-boundary : (c : Containment) → place-number c ≡ 1 → c ≡ OnBoundary
+unfolding place-number
+only-boundary Outside h = absurd (omega (arith, h))
+only-boundary OnBoundary h = refl
+only-boundary Inside h = absurd (omega (arith, h))
+
+only-inside : (c : Containment) → place-number c ≡ 2 → c ≡ Inside
+unfolding place-number
+only-inside Outside h = absurd (omega (arith, h))
+only-inside OnBoundary h = absurd (omega (arith, h))
+only-inside Inside h = refl
+
+lw-place : (u : Refusal) (c : Containment) → let a = told-place (placed u c) in (a .place ≡ 1 → c ≡ OnBoundary) × (a .place ≡ 2 → c ≡ Inside)
+unfolding told-place place-answer place-number placed
+lw-place u c =
+    by-test (λ (a : Placed). ((told-place a) .place ≡ 1 → c ≡ OnBoundary) × ((told-place a) .place ≡ 2 → c ≡ Inside)) (granted u)
+    (λ g. (only-boundary c, only-inside c)) (λ g. (λ h. absurd (omega (arith, h)), λ h. absurd (omega (arith, h))))
+
+-- a point and its distance beside a refusal
+lw-near : (a : Neared) → (Refused (a .refusal) → (a .distance ≡ zero-float) × (a .point ≡ origin)) → ((told-nearest a) .refusal ≡ 0 → ⊥) →
+    ((told-nearest a) .distance ≡ zero-float) × ((told-nearest a) .east ≡ zero-float) × ((told-nearest a) .north ≡ zero-float)
+unfolding told-nearest nearest-answer
+lw-near a none h =
+    let g = none (refused-by (a .refusal) h) in
+    (g .0, ap (λ (q : PlanarPoint). q .east) (g .1), ap (λ (q : PlanarPoint). q .north) (g .1))
+
+no-near : (u : Refusal) (d : Float) (q : PlanarPoint) → Refused ((neared-at u d q) .refusal) →
+    ((neared-at u d q) .distance ≡ zero-float) × ((neared-at u d q) .point ≡ origin)
+unfolding neared-at granted number values
+no-near u d q =
+    by-test (λ (a : Neared). Refused (a .refusal) → (a .distance ≡ zero-float) × (a .point ≡ origin)) (granted u)
+    (λ g h. absurd (true≢false h)) (λ g h. (refl, refl))
+
+lw-area : (x : Float) (u : Refusal) → ((told-area (area-if x u)) .refusal ≡ 0 → ⊥) → (told-area (area-if x u)) .area ≡ zero-float
+unfolding told-area area-answer
+lw-area x u h = no-area x u (refused-by ((area-if x u) .refusal) h)
+
+lw-measure : (u : Refusal) (x : Float) → ((told-measure (measured u x)) .refusal ≡ 0 → ⊥) → (told-measure (measured u x)) .area ≡ zero-float
+unfolding told-measure area-answer
+lw-measure u x h = no-measure u x (refused-by ((measured u x) .refusal) h)
+
+lw-length : (u : Refusal) (x : Float) → ((told-length (measured u x)) .refusal ≡ 0 → ⊥) → (told-length (measured u x)) .length ≡ zero-float
+unfolding told-length length-answer
+lw-length u x h = no-measure u x (refused-by ((measured u x) .refusal) h)
+
+lw-vertex : (u : Refusal) (p : PlanarPoint) → ((told-point (footed u p)) .refusal ≡ 0 → ⊥) →
+    ((told-point (footed u p)) .east ≡ zero-float) × ((told-point (footed u p)) .north ≡ zero-float)
+unfolding told-point point-answer
+lw-vertex u p h =
+    let g = no-foot u p (refused-by ((footed u p) .refusal) h) in
+    (ap (λ (q : PlanarPoint). q .east) g, ap (λ (q : PlanarPoint). q .north) g)
+
+lw-edge : (u : Refusal) (p q : PlanarPoint) → ((told-edge (edged u p q)) .refusal ≡ 0 → ⊥) →
+    ((told-edge (edged u p q)) .«start_east» ≡ zero-float) × ((told-edge (edged u p q)) .«start_north» ≡ zero-float)
+    × ((told-edge (edged u p q)) .«end_east» ≡ zero-float) × ((told-edge (edged u p q)) .«end_north» ≡ zero-float)
+unfolding told-edge edge-answer
+lw-edge u p q h =
+    let g = no-edge u p q (refused-by ((edged u p q) .refusal) h) in (
+      ap (λ (x : PlanarPoint). x .east) (g .0),
+      ap (λ (x : PlanarPoint). x .north) (g .0),
+      ap (λ (x : PlanarPoint). x .east) (g .1),
+      ap (λ (x : PlanarPoint). x .north) (g .1),
+    )
+
 lw-offset : (o : Outline) (outward : Bool) (d : Float) (out : List Float) → ((told-offset (offset-write o outward d out)) .refusal ≡ 0 → ⊥) →
     ((told-offset (offset-write o outward d out)) .count ≡ 0) × (written-offset o outward d out ≡ out)
 unfolding told-offset offset-answer offset-write offset-told
@@ -363,6 +479,58 @@ lw-region-inset a d out h = go (granted (a .refusal)) (refused-by ((inset-made a
     go true g = (no-rings-told (r .shape) (write-inset r out) g, inset-lent (a .shape) d out .refused g)
     go false g = (refl, refl)
 
+lw-stored-region : (r : Region) → ((told-region (region-told r)) .refusal ≡ 0 → ⊥) → (told-region (region-told r)) .rings ≡ 0
+unfolding told-region region-answer region-told
+lw-stored-region r h = no-rings-told r (ask-region r Granted) (refused-by ((region-told r) .refusal) h)
+
+lw-again : (a : NewRegion) (out : List Float) → (told-region (region-made a out)) .refusal ≡ 0 →
+    SameRings (a .shape) (handed-back ((told-region (region-made a out)) .rings) ((told-region (region-made a out)) .counts) (region-over a out))
+unfolding told-region region-answer region-made region-over no-rings
+lw-again a out h = go (granted (a .refusal)) refl (granted-by ((region-made a out) .refusal) h)
+  where
+    made : Bool → RegionWritten
+    made b = cond b (region-write (a .shape) out) (no-rings (a .refusal))
+
+    go : (b : Bool) → granted (a .refusal) ≡ b → granted ((made b) .refusal) ≡ true →
+        SameRings (a .shape) (handed-back ((made b) .rings) ((made b) .counts) (cond b (written-region (a .shape) out) out))
+    go true e g = written-again (a .shape) out g
+    go false e g = absurd (true≢false (sym g ∙ e))
+
+lw-inset-again : (a : NewRegion) (d : Float) (out : List Float) → (told-inset (inset-made a d out)) .refusal ≡ 0 →
+    SameRings ((region-inset (a .shape) d) .shape)
+    (handed-back ((told-inset (inset-made a d out)) .rings) ((told-inset (inset-made a d out)) .counts) (inset-over a d out))
+unfolding told-inset inset-answer inset-made inset-over inset-refused
+lw-inset-again a d out h = go (granted (a .refusal)) refl (granted-by ((inset-made a d out) .refusal) h)
+  where
+    made : Bool → InsetWritten
+    made b = cond b (inset-write (a .shape) d out) (inset-refused (a .refusal))
+
+    go : (b : Bool) → granted (a .refusal) ≡ b → granted ((made b) .refusal) ≡ true →
+        SameRings ((region-inset (a .shape) d) .shape) (handed-back ((made b) .rings) ((made b) .counts) (cond b (written-inset (a .shape) d out) out))
+    go true e g = inset-again (a .shape) d out g
+    go false e g = absurd (true≢false (sym g ∙ e))
+
+lw-ring : (o : NewOutline) (out : List Float) → ((told-ring (Direct.told o out)) .refusal ≡ 0 → ⊥) →
+    ((told-ring (Direct.told o out)) .count ≡ 0) × (over-outline o out ≡ out)
+unfolding told-ring outline-answer Direct.told
+lw-ring o out h =
+    let g = refused-by (outline-told o out) h in
+    (ap (λ (b : Bool). cond b (o .shape .count) 0) g, outline-kept o out g)
+
+lw-hole : (r : Region) (k : ℕ) (out : List Float) → ((told-ring (hole-told r k out)) .refusal ≡ 0 → ⊥) →
+    ((told-ring (hole-told r k out)) .count ≡ 0) × (hole-over r k out ≡ out)
+unfolding hole-told hole-over told-ring outline-answer
+lw-hole r k out = go (ltb k (r .holes))
+  where
+    past : Counted
+    past = record { refusal = ask-region r Granted; count = 0 }
+
+    go : (b : Bool) → ((told-ring (cond b (Direct.told (region-hole r k) out) past)) .refusal ≡ 0 → ⊥) →
+        ((told-ring (cond b (Direct.told (region-hole r k) out) past)) .count ≡ 0)
+        × (cond b (over-outline (region-hole r k) out) out ≡ out)
+    go true h = lw-ring (region-hole r k) out h
+    go false h = (refl, refl)
+
 lw-job-line : (bytes out : List ℕ) → ((told-line (bytes-answered bytes out)) .refusal ≡ 0 → ⊥) →
     ((told-line (bytes-answered bytes out)) .refusal ≡ 20) × ((told-line (bytes-answered bytes out)) .count ≡ length bytes)
     × (bytes-written bytes out ≡ out)
@@ -380,7 +548,7 @@ lw-job-line bytes out = go (leb (length bytes) (length out))
     go false h = (refl, refl, refl)
 
 every-input : EveryInput
-unfolding granted contains nearest area region-contains from-metres from-square-metres
+unfolding granted contains nearest area Query.perimeter Query.extent Query.clearance Query.vertex Query.edge region-contains region-area region-perimeter region-nearest from-metres from-square-metres
 every-input = record {
   granted-zero = zero-granted;
   numbered = numbered;
@@ -391,6 +559,8 @@ every-input = record {
   no-region = λ lengths ps h. no-rings-left ((region lengths ps) .shape) (region-empty .loaded lengths ps .empty h);
   no-given = λ o hs h. no-rings-left _ (region-empty .given o hs .empty h);
   no-alone = λ o h. no-rings-left _ (region-empty .alone o .empty h);
+  no-stored = no-stored;
+  no-outlines = no-outlines;
   no-inset = λ r d h. no-rings-left ((region-inset r d) .shape) (inset-empty r d h);
   no-job = λ outward d lengths ps h. subst NoRegion (sym (refused-empty outward d lengths ps h)) empty-region;
   no-ring = no-ring;
@@ -411,9 +581,31 @@ every-input = record {
   answer-lent = answer-lent;
   lw-check = lw-check;
   lw-outline = λ ps out. lw-outline (outline ps) out;
+  lw-inside = λ ps p. lw-inside _ _;
+  lw-outside = λ ps p. lw-outside _ _;
+  lw-place = λ ps p. lw-place _ _;
+  lw-region-inside = λ r p. lw-inside _ _;
+  lw-region-outside = λ r p. lw-outside _ _;
+  lw-region-place = λ r p. lw-place _ _;
+  lw-nearest = λ ps p. lw-near _ (no-nearest _ _);
+  lw-area = λ ps. lw-area _ _;
+  lw-perimeter = λ ps. lw-length _ _;
+  lw-extent = λ ps. lw-length _ _;
+  lw-clearance = λ ps qs. lw-length _ _;
+  lw-vertex = λ ps k. lw-vertex _ _;
+  lw-edge = λ ps k. lw-edge _ _ _;
+  lw-region-nearest = λ r p. lw-near _ (no-near _ _ _);
+  lw-region-area = λ r. lw-measure _ _;
+  lw-region-perimeter = λ r. lw-length _ _;
   lw-offset = λ ps outward d out. lw-offset (given ps) outward d out;
   lw-region = λ lengths ps out. lw-region (region lengths ps) out;
   lw-region-inset = λ lengths ps d out. lw-region-inset (region lengths ps) d out;
+  lw-given-region = λ lengths ps out. lw-region (given-region lengths ps) out;
+  lw-without-holes = λ ps out. lw-region (alone ps) out;
+  lw-stored-inset = λ lengths ps d out. lw-region-inset (stored-region lengths ps) d out;
+  lw-stored-region = lw-stored-region;
+  lw-region-outer = λ r out. lw-ring (region-outer r) out;
+  lw-region-hole = lw-hole;
   lw-job-line = λ line out. lw-job-line (answer-line line) out;
 }
 
@@ -575,6 +767,18 @@ job-more d lengths ps two h =
     (subst (λ (a : NewRegion). granted (a .refusal) ≡ true) is h)
     ∙ ap (λ (a : NewRegion). region-inset (a .shape) d) (sym is)
 
+fitting : (n : ℕ) (ns : List ℕ) (ps : List Float) → 2 * total (n ∷ ns) ≡ length ps → lengths-fit (n ∷ ns) ps ≡ true
+unfolding lengths-fit
+fitting n ns ps e = rw (lt-ltb 0 (length (n ∷ ns)) (omega arith), eq-eqb (2 * total (n ∷ ns)) (length ps) e) refl
+
+unfit : (lengths : List ℕ) (ps : List Float) → lengths-fit lengths ps ≡ false → (given-region lengths ps) .refusal ≡ Shape
+unfolding given-region kept region-refused
+unfit lengths ps h = rw h refl
+
+one-sum : (n : ℕ) → 2 * total (n ∷ []) ≡ 2 * n
+unfolding total total-step rounds
+one-sum n = omega arith
+
 the-answers : Answers
 unfolding offset-plain region-plain
 the-answers = record {
@@ -603,6 +807,15 @@ the-answers = record {
   inset-passed = λ r d g l.
       let k = inset-accepted r d g l in
       record { simple = k .simple; checked = k .region; side = k .side; gap = k .gap; apart = k .apart };
+  handed = stored-as-handed;
+  handed-asked = stored-asked;
+  outlines-handed = given-as-handed;
+  outlines-unfit = unfit;
+  outlines-given = λ n ns ps e. given-outlines n ns ps (fitting n ns ps e);
+  outline-alone = λ n ps e. given-alone n ps (fitting n [] ps (one-sum n ∙ e));
+  lw-again = lw-again;
+  lw-inset-again = lw-inset-again;
+  both-parts = region-nearest-parts;
   job-one = job-one;
   job-more = job-more;
   nearest-least = nearest-least;
@@ -677,6 +890,7 @@ front-whole = record {
   of-job = jobs-counted;
   of-lw-offset = Counted.offset-told;
   of-lw-region-inset = region-inset-told;
+  of-lw-stored-inset = stored-inset-told;
 }
 
 -- ---- 4. true distance
@@ -712,6 +926,7 @@ true-distance = record {
   inset-written = inset-write-margin;
   lw-inset = λ ps d out pd fd e l. margin (lw-inset-margin ps d out pd fd e l);
   lw-region-inset = λ lengths ps d out pd fd e l. margins (lw-region-inset-margin lengths ps d out pd fd e l);
+  lw-stored-inset = λ lengths ps d out pd fd e l. margins (lw-stored-inset-margin lengths ps d out pd fd e l);
 }
 
 -- ---- 5. meeting
@@ -842,6 +1057,19 @@ every-line = record {
       let f = finishes held count out (holding held count h) l in
       (ap outcome-refusal (f .0), f .1);
   last-lent = last-lent;
+  lw-stream = any-stream;
+  lw-made-told = made-tells;
+  lw-made = made-passes;
+  lw-fed = λ block state out. feed-keeps block state out .passed;
+  lw-finished = λ state out. finish-keeps state out .passed;
+  lw-made-leaves = made-keeps;
+  lw-feed-leaves = λ block state out. (feed-keeps block state out, feed-leaves block state out);
+  lw-finish-leaves = λ state out. (finish-keeps state out, finish-leaves state out);
+  lw-goes = feeds-on;
+  lw-enough = feeds-enough;
+  lw-ends = finishes-on;
+  lw-feed-judges = feed-judges;
+  lw-finish-judges = finish-judges;
   starts = answer-starts;
   room = answer-room;
   overlong = overlong-answer;

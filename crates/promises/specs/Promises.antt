@@ -14,12 +14,14 @@
 --   offset o outward d                   `inset`, or `outset` where outward is true    offset/specs/Offsets.antt
 --   offset-write, written-offset         to lent output: the answer, and the memory    offset/specs/Lent.antt
 --   region lengths ps                    rings of numbers to a region                  region/specs/Checks.antt
+--   stored-region lengths ps             rings handed in as they are written           region_stored/specs/Stored.antt
 --   region-inset r d                     `inset` of a region                           region/specs/Insets.antt
 --   inset-write, written-inset           the same to lent output                       region/specs/Queries.antt
 --   job outward d lengths ps             a job on numbers                              job/specs/Jobs.antt
 --   answer-line line, answers input      a job line, and a whole input, to bytes       job/specs/AnswerLines.antt, Stream.antt
 --   told-offset, told-inset, ..          what the functions for C hand back            lizardwire_c/specs/Exports.antt and
 --                                                                                      region_c/specs/Told.antt
+--   lw-feed, lw-feed-state, ..           a call for C on a stream, and the state after stream_c/specs/Calls.antt
 --
 -- How to read it: an `abbrev` stands for its right side everywhere. `P × Q` is P and Q, `P ⊎ Q` is P or Q, `(i : ℕ) × P i` is an i
 -- with P i, and `P → ⊥` says that P does not hold. `getD ps k nan` is number k of the list ps, and NaN past its end. A ring is a list
@@ -30,7 +32,7 @@ use mathlib.Core.Logic.{_⊎_}
 use mathlib.Core.Bool.{Bool, true, false, cond}
 use mathlib.Core.List.{List, [], _∷_, _++_, map}
 use lib.Dec.{T, leb}
-use lib.ListN.{getD, length, replicate, take}
+use lib.ListN.{getD, length, replicate, take, drop}
 use lib.Ieee.{Float, nan, inf, binary64, fits, lt, le, eq, ofBits}
 use lib.Ieee.Exact.{HasValue}
 use Rattle.error.specs.declared.Refusal.{Refusal}
@@ -58,7 +60,8 @@ use Rattle.ring_cross.specs.Simple.{check-simple}
 use Rattle.ring_cross.specs.SimpleExact.{FiniteRing, Folded, Why}
 use Rattle.margins.specs.Far.{over, under, magnitude, field-units, sign-of, field-of, digits-of, squared-apart}
 use Rattle.outline.specs.declared.Outline.{Outline}
-use Rattle.outline.specs.Outlines.{outline, proper, relative-tolerance}
+use Rattle.outline.specs.Outlines.{outline, stored-outline, proper, relative-tolerance}
+use Rattle.outline_ask.specs.Queries as Query
 use Rattle.outline_ask.specs.Queries.{measured, footed, edged, contains, nearest, area}
 use Rattle.outline_lent.specs.Writes.{outline-write, written-outline}
 use Rattle.front.specs.declared.Edge.{Edge}
@@ -68,13 +71,15 @@ use Rattle.front.specs.Demand.{Counts, Demand, givens, run, Each, Looks, tidied
 use Rattle.offset.specs.Offsets.{offset, outline-load, check-distance}
 use Rattle.offset.specs.Lent.{offset-write, written-offset}
 use Rattle.region.specs.declared.Region.{Region}
+use Rattle.region.specs.declared.NewRegion.{NewRegion}
 use Rattle.region.specs.declared.RegionOffset.{RegionOffset}
 use Rattle.region.specs.Regions.{ring-points, ring-count, region-contains, distance-to-boundary, region-extent}
-use Rattle.region.specs.Checks.{region, region-given, without-holes, proper-region, check-region, total}
+use Rattle.region.specs.Checks.{lengths-fit, region, region-given, without-holes, proper-region, check-region, total}
 use Rattle.region.specs.Insets.{region-inset}
 use Rattle.region.specs.Queries as Asked
-use Rattle.region.specs.Queries.{read-outline, before, needed, region-write, written-region, inset-write, written-inset}
+use Rattle.region.specs.Queries.{ask-region, read-outline, before, needed, region-write, written-region, inset-write, written-inset}
 use Rattle.region.specs.Demand.{edges-of, region-load}
+use Rattle.region_ask.specs.Boundary.{NearestParts, region-nearest}
 use Rattle.format.specs.Fields.{line-feed, lines}
 use Rattle.format.specs.Texts.{bytes-of}
 use Rattle.format.specs.Numerals.{is-float, bits-of, bits-digits, is-count, count-of, count-digits}
@@ -86,14 +91,24 @@ use Rattle.job.specs.Stream.{answers, all-answered, joined, written}
 use Rattle.job.specs.Table as Lines
 use Rattle.job_answer.specs.Writing.{bytes-answered, answered, answer-written}
 use Rattle.format_job.specs.Reads.{parse-answered, lengths-written, coordinates-written}
+use Rattle.outline_lent.specs.Direct
 use Rattle.outline_lent.specs.Direct.{over-outline}
 use Rattle.job_stream.specs.Feeding.{fed, machine, outcome-refusal, Call, all-taken, all-written}
 use Rattle.job_stream.specs.Progress.{rounds-start, blocks-taken-in, all-sent}
 use Rattle.job_lines.specs.Wire.{held-of, out-of, stream-fed, feed-told, finish-told, finish-written, EndedBy}
+use Rattle.stream_c.specs.State.{said, passes}
+use Rattle.stream_c.specs.Calls.{made, made-state, lw-feed, lw-feed-state, lw-feed-out, lw-finish, lw-finish-state, lw-finish-out}
+use Rattle.stream_c.specs.Streamed.{Made, Kept, Behind, Judged, FeedGranted, FeedShort, FinishGranted, FinishShort, all-fed}
+use Rattle.stream_c.specs.Streamed as Streamed
 use Rattle.region_c.specs.Counted.{RegionTold}
+use Rattle.region_stored.specs.Stored.{stored-region, given-region, AsHanded}
+use Rattle.region_stored.specs.AsOutlines.{outlines-of}
+use Rattle.region_stored.specs.Rewritten.{SameRings, handed-back}
 use Rattle.region_c.specs.Told.{told-region, region-made, region-over, told-inset, inset-made, inset-over}
+use Rattle.region_c.specs.Told.{region-told, alone, told-ring, told-measure, hole-told, hole-over}
 use Rattle.lizardwire_c.specs.Counted.{OutlineTold}
-use Rattle.lizardwire_c.specs.Exports.{vertices, given, checked, told-outline, told-offset, told-line}
+use Rattle.lizardwire_c.specs.Exports.{vertices, given, checked, told-outline, told-place, told-length, told-point, told-edge, told-offset}
+use Rattle.lizardwire_c.specs.Exports.{told-nearest, told-area, told-line}
 use Rattle.margin.specs.Margin.{Doubles, RegionDoubles}
 use Rattle.margin.specs.Lent.{ring-in}
 use Rattle.margin.specs.Drawn.{given-ring, GivenMargin}
@@ -183,6 +198,10 @@ pub record EveryInput : Type 0 where
   pub no-region : (lengths : List ℕ) (ps : List Float) → let a = region lengths ps in Refused (a .refusal) → NoRegion (a .shape)
   pub no-given : (o : Outline) (hs : List Outline) → let a = region-given o hs in Refused (a .refusal) → NoRegion (a .shape)
   pub no-alone : (o : Outline) → let a = without-holes o in Refused (a .refusal) → NoRegion (a .shape)
+  pub no-stored : (lengths : List ℕ) (ps : List Float) → let a = stored-region lengths ps in
+      Refused (a .refusal) → (a .refusal ≡ Shape) × NoRegion (a .shape)
+  pub no-outlines : (lengths : List ℕ) (ps : List Float) → let a = given-region lengths ps in
+      Refused (a .refusal) → NoRegion (a .shape)
   pub no-inset : (r : Region) (d : Float) → let a = region-inset r d in Refused (a .refusal) → NoRegion (a .shape)
   pub no-job : (outward : Bool) (d : Float) (lengths : List ℕ) (ps : List Float) → let a = job outward d lengths ps in
       Refused (a .refusal) → NoRegion (a .shape)
@@ -226,6 +245,45 @@ pub record EveryInput : Type 0 where
   pub lw-check : (ps : List Float) → let a = checked (outline ps) in (a .refusal ≡ 0 → ⊥) → a .count ≡ 0
   pub lw-outline : (ps out : List Float) → let a = told-outline (outline ps) out in
       (a .refusal ≡ 0 → ⊥) → (a .count ≡ 0) × (over-outline (outline ps) out ≡ out)
+  -- `lw_contains`: `place` may be read as a truth. Where it is not 0 the call is granted and the point is not outside; where it is 0 and
+  -- the call is granted, the point is outside.
+  pub lw-inside : (ps : List Float) (p : PlanarPoint) → let n = vertices (length ps) in let a = told-place (contains ps n p) in
+      (a .place ≡ 0 → ⊥) → (a .refusal ≡ 0) × (ring-contains ps n p ≡ Outside → ⊥)
+  pub lw-outside : (ps : List Float) (p : PlanarPoint) → let n = vertices (length ps) in let a = told-place (contains ps n p) in
+      a .place ≡ 0 → a .refusal ≡ 0 → ring-contains ps n p ≡ Outside
+  pub lw-place : (ps : List Float) (p : PlanarPoint) → let n = vertices (length ps) in let a = told-place (contains ps n p) in
+      (a .place ≡ 1 → ring-contains ps n p ≡ OnBoundary) × (a .place ≡ 2 → ring-contains ps n p ≡ Inside)
+  -- `lw_region_contains` of a region r, likewise
+  pub lw-region-inside : (r : Region) (p : PlanarPoint) → let a = told-place (Asked.region-contains r p) in
+      (a .place ≡ 0 → ⊥) → (a .refusal ≡ 0) × (region-contains r p ≡ Outside → ⊥)
+  pub lw-region-outside : (r : Region) (p : PlanarPoint) → let a = told-place (Asked.region-contains r p) in
+      a .place ≡ 0 → a .refusal ≡ 0 → region-contains r p ≡ Outside
+  pub lw-region-place : (r : Region) (p : PlanarPoint) → let a = told-place (Asked.region-contains r p) in
+      (a .place ≡ 1 → region-contains r p ≡ OnBoundary) × (a .place ≡ 2 → region-contains r p ≡ Inside)
+  -- `lw_nearest`, `lw_area`, `lw_perimeter`, `lw_extent`, `lw_clearance`, `lw_vertex`, `lw_edge`: the numbers beside a refusal are 0
+  pub lw-nearest : (ps : List Float) (p : PlanarPoint) → let a = told-nearest (nearest ps (vertices (length ps)) p) in
+      (a .refusal ≡ 0 → ⊥) → (a .distance ≡ zero-float) × (a .east ≡ zero-float) × (a .north ≡ zero-float)
+  pub lw-area : (ps : List Float) → let a = told-area (area ps (vertices (length ps))) in
+      (a .refusal ≡ 0 → ⊥) → a .area ≡ zero-float
+  pub lw-perimeter : (ps : List Float) → let a = told-length (Query.perimeter ps (vertices (length ps))) in
+      (a .refusal ≡ 0 → ⊥) → a .length ≡ zero-float
+  pub lw-extent : (ps : List Float) → let a = told-length (Query.extent ps (vertices (length ps))) in
+      (a .refusal ≡ 0 → ⊥) → a .length ≡ zero-float
+  pub lw-clearance : (ps qs : List Float) → let n = vertices (length ps) in let m = vertices (length qs) in
+      let a = told-length (Query.clearance ps n qs m) in
+      (a .refusal ≡ 0 → ⊥) → a .length ≡ zero-float
+  pub lw-vertex : (ps : List Float) (k : ℕ) → let a = told-point (Query.vertex ps (vertices (length ps)) k) in
+      (a .refusal ≡ 0 → ⊥) → (a .east ≡ zero-float) × (a .north ≡ zero-float)
+  pub lw-edge : (ps : List Float) (k : ℕ) → let a = told-edge (Query.edge ps (vertices (length ps)) k) in
+      (a .refusal ≡ 0 → ⊥) →
+      (a .«start_east» ≡ zero-float) × (a .«start_north» ≡ zero-float)
+      × (a .«end_east» ≡ zero-float) × (a .«end_north» ≡ zero-float)
+  -- `lw_region_nearest`, `lw_region_area` and `lw_region_perimeter` of a region r, likewise
+  pub lw-region-nearest : (r : Region) (p : PlanarPoint) → let a = told-nearest (region-nearest r p) in
+      (a .refusal ≡ 0 → ⊥) → (a .distance ≡ zero-float) × (a .east ≡ zero-float) × (a .north ≡ zero-float)
+  pub lw-region-area : (r : Region) → let a = told-measure (Asked.region-area r) in (a .refusal ≡ 0 → ⊥) → a .area ≡ zero-float
+  pub lw-region-perimeter : (r : Region) → let a = told-length (Asked.region-perimeter r) in
+      (a .refusal ≡ 0 → ⊥) → a .length ≡ zero-float
   -- `lw_inset` and `lw_outset`
   pub lw-offset : (ps : List Float) (outward : Bool) (d : Float) (out : List Float) →
       let a = told-offset (offset-write (given ps) outward d out) in
@@ -235,6 +293,20 @@ pub record EveryInput : Type 0 where
   pub lw-region-inset : (lengths : List ℕ) (ps : List Float) (d : Float) (out : List Float) →
       let a = told-inset (inset-made (region lengths ps) d out) in
       (a .refusal ≡ 0 → ⊥) → (a .rings ≡ 0) × (inset-over (region lengths ps) d out ≡ out)
+  -- `lw_given_region`, `lw_without_holes`, `lw_stored_region_inset`
+  pub lw-given-region : (lengths : List ℕ) (ps out : List Float) → let a = told-region (region-made (given-region lengths ps) out) in
+      (a .refusal ≡ 0 → ⊥) → (a .rings ≡ 0) × (region-over (given-region lengths ps) out ≡ out)
+  pub lw-without-holes : (ps out : List Float) → let a = told-region (region-made (alone ps) out) in
+      (a .refusal ≡ 0 → ⊥) → (a .rings ≡ 0) × (region-over (alone ps) out ≡ out)
+  pub lw-stored-inset : (lengths : List ℕ) (ps : List Float) (d : Float) (out : List Float) →
+      let a = told-inset (inset-made (stored-region lengths ps) d out) in
+      (a .refusal ≡ 0 → ⊥) → (a .rings ≡ 0) × (inset-over (stored-region lengths ps) d out ≡ out)
+  -- `lw_stored_region`, which writes nothing, `lw_region_outer` and `lw_region_hole` of a region r
+  pub lw-stored-region : (r : Region) → let a = told-region (region-told r) in (a .refusal ≡ 0 → ⊥) → a .rings ≡ 0
+  pub lw-region-outer : (r : Region) (out : List Float) → let a = told-ring (Direct.told (Asked.region-outer r) out) in
+      (a .refusal ≡ 0 → ⊥) → (a .count ≡ 0) × (over-outline (Asked.region-outer r) out ≡ out)
+  pub lw-region-hole : (r : Region) (k : ℕ) (out : List Float) → let a = told-ring (hole-told r k out) in
+      (a .refusal ≡ 0 → ⊥) → (a .count ≡ 0) × (hole-over r k out ≡ out)
   -- `lw_job_line` is refused by 20 only, a job's refusal being an answer; `count` then tells the bytes that are needed
   pub lw-job-line : (line out : List ℕ) → let a = told-line (bytes-answered (answer-line line) out) in
       (a .refusal ≡ 0 → ⊥) →
@@ -357,6 +429,32 @@ pub record Answers : Type 0 where
       Accepted (a .refusal) → Above d → Passed o outward d (a .shape)
   pub inset-passed : (r : Region) (d : Float) → let a = region-inset r d in
       Accepted (a .refusal) → Above d → PassedRegion r d (a .shape)
+  -- ---- regions handed in
+
+  -- What is granted has the rings that were handed in, and their counts add up to the numbers (`AsHanded` in
+  -- region_stored/specs/Stored.antt). Every question asks 21 of it again, which passes where it was granted and nowhere else.
+  pub handed : (lengths : List ℕ) (ps : List Float) → let a = stored-region lengths ps in
+      Accepted (a .refusal) → AsHanded lengths ps (a .shape)
+  pub handed-asked : (lengths : List ℕ) (ps : List Float) → let a = stored-region lengths ps in
+      a .refusal ≡ ask-region (a .shape) Granted
+  -- So has the region of given outlines. Where the counts do not add up it is 21; else it is the region of the outlines, and of one alone
+  -- that without holes.
+  pub outlines-handed : (lengths : List ℕ) (ps : List Float) → let a = given-region lengths ps in
+      Accepted (a .refusal) → AsHanded lengths ps (a .shape)
+  pub outlines-unfit : (lengths : List ℕ) (ps : List Float) → lengths-fit lengths ps ≡ false →
+      (given-region lengths ps) .refusal ≡ Shape
+  pub outlines-given : (n : ℕ) (ns : List ℕ) (ps : List Float) → 2 * total (n ∷ ns) ≡ length ps →
+      given-region (n ∷ ns) ps ≡ region-given (stored-outline ps n false) (outlines-of ns (drop (2 * n) ps))
+  pub outline-alone : (n : ℕ) (ps : List Float) → 2 * n ≡ length ps →
+      given-region (n ∷ []) ps ≡ without-holes (stored-outline ps n false)
+  -- What the functions for C have written, of a region that was made or of its inset, handed in again with the counts that they told, is
+  -- granted and has the same rings (region_stored/specs/Rewritten.antt): so an inset can be inset again.
+  pub lw-again : (a : NewRegion) (out : List Float) → let w = told-region (region-made a out) in
+      w .refusal ≡ 0 → SameRings (a .shape) (handed-back (w .rings) (w .counts) (region-over a out))
+  pub lw-inset-again : (a : NewRegion) (d : Float) (out : List Float) → let w = told-inset (inset-made a d out) in
+      w .refusal ≡ 0 → SameRings ((region-inset (a .shape) d) .shape) (handed-back (w .rings) (w .counts) (inset-over a d out))
+  -- The nearest point of a region and its distance, in one answer, are what the two questions answer.
+  pub both-parts : (r : Region) (p : PlanarPoint) → NearestParts r p
   -- ---- jobs
 
   -- A job of one ring is the offset of its outline, handed back as a region without holes (`as-region`), and one of more rings is the
@@ -439,6 +537,8 @@ pub record FrontWhole : Type 0 where
       OutlineTold ps outward distance (told-offset (offset-write (given ps) outward distance out))
   pub of-lw-region-inset : (lengths : List ℕ) (ps : List Float) (distance : Float) (out : List Float) →
       RegionTold distance (region lengths ps) (told-inset (inset-made (region lengths ps) distance out))
+  pub of-lw-stored-inset : (lengths : List ℕ) (ps : List Float) (distance : Float) (out : List Float) →
+      RegionTold distance (stored-region lengths ps) (told-inset (inset-made (stored-region lengths ps) distance out))
 
 -- ---- 4. The vertices of an inset keep their distance in truth
 --
@@ -533,13 +633,16 @@ pub record TrueDistance : Type 0 where
       let a = inset-write r d out in Accepted (a .refusal) → Above d → (k l : ℕ) → k < a .rings → l ≤ r .holes →
       RingAway (over d) (over (region-extent r)) (ring-in (a .counts) (written-inset r d out) k) (getD (a .counts) k 0)
       (ring-points r l) (ring-count r l)
-  -- `lw_inset` and `lw_region_inset`: from the numbers handed in
+  -- `lw_inset`, `lw_region_inset` and `lw_stored_region_inset`: from the numbers handed in
   pub lw-inset : (ps : List Float) (d : Float) (out : List Float) → Doubles ps → Double d →
       let a = told-offset (offset-write (given ps) false d out) in a .refusal ≡ 0 → Above d →
       Margin d ps (vertices (length ps)) (written-offset (given ps) false d out) (a .count)
   pub lw-region-inset : (lengths : List ℕ) (ps : List Float) (d : Float) (out : List Float) → Doubles ps → Double d →
       let a = told-inset (inset-made (region lengths ps) d out) in a .refusal ≡ 0 → Above d →
       RingsMargin d lengths ps (a .rings) (ring-in (a .counts) (inset-over (region lengths ps) d out)) (λ k. getD (a .counts) k 0)
+  pub lw-stored-inset : (lengths : List ℕ) (ps : List Float) (d : Float) (out : List Float) → Doubles ps → Double d →
+      let a = told-inset (inset-made (stored-region lengths ps) d out) in a .refusal ≡ 0 → Above d →
+      RingsMargin d lengths ps (a .rings) (ring-in (a .counts) (inset-over (stored-region lengths ps) d out)) (λ k. getD (a .counts) k 0)
 
 -- ---- 5. Edges that meet are told, and no others
 --
@@ -677,6 +780,39 @@ pub record EveryLine : Type 0 where
       × (take (a .used) (finish-written held count out) ≡ written (machine held count []))
   pub last-lent : (held : List ℕ) (count : ℕ) (out : List ℕ) → let a = finish-told held count out in
       Refused (outcome-refusal (a .outcome)) → finish-written held count out ≡ out
+  -- ---- calls for C: what is held is in lent bytes, the state, and `passes` is the judgement of it (stream_c/specs/State.antt)
+
+  -- From a state that holds nothing: what any calls of `lw_feed`, and then `lw_finish`, write is the answers to what they take.
+  pub lw-stream : (state : List ℕ) (calls : List Call) (out : List ℕ) →
+      passes state ≡ true → said state ≡ 0 → 16385 ≤ length out →
+      Streamed.all-answered state calls out ≡ all-answered (lines (joined (all-fed state calls)))
+  -- `lw_stream` makes such a state, or it is refused by 20 and touches nothing.
+  pub lw-made-told : (state : List ℕ) → Made state (made-state state) (made state)
+  pub lw-made : (state : List ℕ) → 16387 ≤ length state → (passes (made-state state) ≡ true) × (said (made-state state) ≡ 0)
+  -- A state that passes passes again after each call: it is never refused by 21.
+  pub lw-fed : (block state out : List ℕ) → passes state ≡ true → passes (lw-feed-state block state out) ≡ true
+  pub lw-finished : (state out : List ℕ) → passes state ≡ true → passes (lw-finish-state state out) ≡ true
+  -- What a call does not write is as it was: the bytes past the state's 16,387, and the output's behind those that are `written`.
+  pub lw-made-leaves : (state : List ℕ) → Kept state (made-state state)
+  pub lw-feed-leaves : (block state out : List ℕ) → let a = lw-feed block state out in
+      Kept state (lw-feed-state block state out) × Behind (a .written) out (lw-feed-out block state out)
+  pub lw-finish-leaves : (state out : List ℕ) → let a = lw-finish state out in
+      Kept state (lw-finish-state state out) × Behind (a .written) out (lw-finish-out state out)
+  -- A granted call takes its whole block or writes something. Where not even the first answer fits the output, 20 tells its bytes and
+  -- nothing is written; with 16,385 bytes of output it does not come.
+  pub lw-goes : (block state out : List ℕ) → passes state ≡ true →
+      FeedGranted block (lw-feed block state out) ⊎ FeedShort block state out (lw-feed block state out)
+  pub lw-enough : (block state out : List ℕ) → passes state ≡ true → 16385 ≤ length out →
+      FeedGranted block (lw-feed block state out)
+  -- The end of the input is granted, the line that is held is answered and nothing is held then, or it is refused by 20 with the bytes
+  -- needed, and all is as it was.
+  pub lw-ends : (state out : List ℕ) → passes state ≡ true →
+      FinishGranted state out (lw-finish state out) ⊎ FinishShort state out (lw-finish state out)
+  -- A state with fewer than 16,387 bytes is 20, and then one that says it holds more than it has room for is 21: nothing is touched.
+  pub lw-feed-judges : (block state out : List ℕ) → let a = lw-feed block state out in
+      Judged a state (lw-feed-state block state out) out (lw-feed-out block state out)
+  pub lw-finish-judges : (state out : List ℕ) → let a = lw-finish state out in
+      Judged a state (lw-finish-state state out) out (lw-finish-out state out)
   -- ---- bytes
 
   -- an answer line is `ok,` or `no,` and more, and has 13,098 bytes at most

@@ -1,2 +1,3 @@
 pub mod Feet
 pub mod Whole
+pub mod Both

@@ -8,6 +8,7 @@ ghost use lib.ListN.{getD, drop, length};
 ghost use Rattle.outline.specs.Outlines;
 ghost use Rattle.region.specs.Queries;
 ghost use Rattle.region.specs.Regions;
+ghost use Rattle.region_ask.specs.Boundary;
 ghost use Rattle.region_ask.specs.Reads;
 use error::Refusal;
 use outline::NewOutline;
@@ -15,6 +16,7 @@ use outline::Outline;
 use outline::store;
 use outline_ask::Footed;
 use outline_ask::Measured;
+use outline_ask::Neared;
 use outline_ask::Placed;
 use plane::Containment;
 use plane::PlanarPoint;
@@ -89,6 +91,34 @@ pub fn closest_boundary_point<'a>(
     } else {
         Footed {
             refusal: r,
+            point: PlanarPoint::ORIGIN,
+        }
+    }
+}
+
+// The nearest point of the boundary or of a hole, and its distance, in one walk; (0, 0) and 0 beside a refusal.
+pub fn nearest<'a>(
+    ps: &'a [f64],
+    n: usize,
+    hs: &'a [f64],
+    cs: &'a [usize],
+    h: usize,
+    p: PlanarPoint,
+) -> Neared
+    ensures { λ r. ⌜ r ≡ Boundary.region-nearest (Regions.region-of (now (ps .entry)) n (now (hs .entry)) (now (cs .entry)) h) p ⌝ }
+{
+    let r = region_given::ask_region(ps, n, hs, cs, h, p.check());
+    if r.granted() {
+        let point = region_point::closest_boundary_point(ps, n, hs, cs, h, p);
+        Neared {
+            refusal: Refusal::Granted,
+            distance: p.distance_to(point),
+            point: point,
+        }
+    } else {
+        Neared {
+            refusal: r,
+            distance: 0.0,
             point: PlanarPoint::ORIGIN,
         }
     }

@@ -18,8 +18,10 @@ use Rattle.region.specs.Demand.{edges-of, region-load}
 use Rattle.region.proofs.Loaded.{region-again}
 use Rattle.region.proofs.Counted.{inset-write-accounts}
 use Rattle.told.specs.Told.{inset-answer}
-use Rattle.region_c.specs.Told.{told-inset, inset-refused, inset-made}
+use Rattle.region_stored.proofs.Again.{stored-again}
+use Rattle.region_c.specs.Told.{stored-region, told-inset, inset-refused, inset-made}
 use Rattle.region_c.specs.Counted.{ToldDemand, ToldAccounts, MadeAccounts, RegionTold, InsetMadeAccounts, RegionInsetTold}
+use Rattle.region_c.specs.Counted.{StoredMadeAccounts, StoredInsetTold}
 
 pub told-demand : (n r : ℕ) (u : Refusal) (c e j : ℕ) → AnswerDemand n r u c e j → ToldDemand n r ((carried u) .question) ((carried u) .first) c e j
 unfolding carried carried-of told number
@@ -44,6 +46,9 @@ made r d out p = record {
 pub inset-made-accounts : InsetMadeAccounts
 inset-made-accounts lengths ps d out = made (region lengths ps) d out (region-again .loaded lengths ps .proper)
 
+pub stored-made-accounts : StoredMadeAccounts
+stored-made-accounts lengths ps d out = made (stored-region lengths ps) d out (stored-again lengths ps .proper)
+
 told-made : (r : NewRegion) (d : Float) (w : InsetWritten) → MadeAccounts d r w → RegionTold d r (told-inset w)
 unfolding told-inset inset-answer
 told-made r d w h =
@@ -55,3 +60,7 @@ told-made r d w h =
 
 pub region-inset-told : RegionInsetTold
 region-inset-told lengths ps d out = told-made (region lengths ps) d (inset-made (region lengths ps) d out) (inset-made-accounts lengths ps d out)
+
+pub stored-inset-told : StoredInsetTold
+stored-inset-told lengths ps d out =
+    told-made (stored-region lengths ps) d (inset-made (stored-region lengths ps) d out) (stored-made-accounts lengths ps d out)

@@ -13,7 +13,7 @@ use Rattle.region.specs.declared.InsetWritten.{InsetWritten}
 use Rattle.region.specs.Checks.{region}
 use Rattle.region.specs.Demand.{edges-of, region-load}
 use Rattle.told.specs.declared.LwRegionOffset.{LwRegionOffset}
-use Rattle.region_c.specs.Told.{inset-made, lw-region-inset}
+use Rattle.region_c.specs.Told.{stored-region, inset-made, lw-region-inset, lw-stored-region-inset}
 
 -- `AnswerDemand`, of a refusal that is its number and what it carries first
 pub record ToldDemand (n r : ℕ) (refusal first c e j : ℕ) : Type 0 where
@@ -26,7 +26,7 @@ pub record ToldAccounts (n r : ℕ) (distance : Float) (l : Loaded) (refusal fir
   pub bounds : ToldDemand n r refusal first c e j
   pub counted : Counted distance l c e j
 
--- the answer w to the inset of r, which 1 to 12 make of the numbers, to lent output
+-- the answer w to the inset of r, a region that was made or refused, to lent output
 pub record MadeAccounts (distance : Float) (r : NewRegion) (w : InsetWritten) : Type 0 where
   pub passed : granted (r .refusal) ≡ true →
       Accounts (edges-of (r .shape) (r .shape .holes)) (suc (r .shape .holes)) distance (region-load (r .shape) distance) (w .refusal)
@@ -46,8 +46,20 @@ InsetMadeAccounts =
     (lengths : List ℕ) (ps : List Float) (distance : Float) (out : List Float) →
     MadeAccounts distance (region lengths ps) (inset-made (region lengths ps) distance out)
 
+-- `stored_inset_into`
+abbrev pub StoredMadeAccounts : Type 0
+StoredMadeAccounts =
+    (lengths : List ℕ) (ps : List Float) (distance : Float) (out : List Float) →
+    MadeAccounts distance (stored-region lengths ps) (inset-made (stored-region lengths ps) distance out)
+
 -- `lw_region_inset`
 abbrev pub RegionInsetTold : Type 0
 RegionInsetTold =
     (lengths : List ℕ) (ps : List Float) (distance : Float) (out : List Float) →
     RegionTold distance (region lengths ps) (lw-region-inset lengths ps distance out)
+
+-- `lw_stored_region_inset`
+abbrev pub StoredInsetTold : Type 0
+StoredInsetTold =
+    (lengths : List ℕ) (ps : List Float) (distance : Float) (out : List Float) →
+    RegionTold distance (stored-region lengths ps) (lw-stored-region-inset lengths ps distance out)

@@ -5,14 +5,14 @@ use mathlib.Core.List.{List}
 use Prim.Native.Nat.{ℕ, _+_, _-_, _*_, _≤_, _<_}
 use native.Mathlib.Omega.{arith}
 use borrow.Author.Tests.{lt-ltb, le-ltb, eqb-true, eq-eqb, not-true, not-false}
-use lib.Dec.{ltb, eqb}
-use lib.ListN.{length, set, length-set}
+use lib.Dec.{eqb}
+use lib.ListN.{length, set}
 use lib.Seq.{set-out}
 use lib.Ieee.{Float}
 use Rattle.plane.specs.declared.PlanarPoint.{PlanarPoint}
 use Rattle.ring.specs.Ring.{stored-at}
 use Rattle.ring.specs.Store.{store-vertex, store-step, stored}
-use Rattle.base.proofs.Laws.{rounds-keep}
+use Rattle.ring.proofs.Storing.{stored-length}
 use Rattle.region_given.specs.Filing.{filed}
 
 pub second-in : (out : List Float) (base room at : ℕ) → length out ≡ 512 → room ≡ 256 - base → at < room → 2 * (base + at) + 1 < length out
@@ -30,11 +30,6 @@ module _ (ps : List Float) (n : ℕ) (back : Bool) (base i : ℕ) (out : List Fl
       let a : set out (2 * (base + i)) (v .east) ≡ out = set-out out (2 * (base + i)) (v .east) (omega arith) in
       let b : set out (2 * (base + i) + 1) (v .north) ≡ out = set-out out (2 * (base + i) + 1) (v .north) (omega arith) in
       sym (ap (λ (x : List Float). set x (2 * (base + i) + 1) (v .north)) a ∙ b)
-
--- a ring that is stored leaves the list as long as it was
-stored-length : (ps : List Float) (n : ℕ) (back : Bool) (base : ℕ) (out : List Float) → length (stored ps n back base out) ≡ length out
-unfolding stored store-step store-vertex
-stored-length ps n back base out = rounds-keep (store-step ps n back base) (λ (k : ℕ) (x : List Float). length x ≡ length out) out refl (λ k x h. simp length-set h) n
 
 module _ (ps : List Float) (n : ℕ) (back : Bool) (base : ℕ) (out : List Float) where
   -- the numbers of a region's holes

@@ -27,7 +27,7 @@ use Rattle.region.proofs.Lent.{region-lent}
 use Rattle.region.proofs.NineCounts.{counts-stored}
 use Rattle.front.proofs.Demand.Shapes.{proper-is}
 use Rattle.outline_lent.proofs.Written.{ring-writing}
-use Rattle.region_lent.specs.Rings.{count-of, points-of, before-of-step, before-of, counts-of-step, counts-of, Few}
+use Rattle.region_lent.specs.Rings.{count-of, points-of, before-of-step, before-of, counts-of-step, counts-of, Few, region-told}
 
 -- ---- one ring more
 
@@ -170,3 +170,13 @@ module _ (ps : List Float) (n : ℕ) (hs : List Float) (cs : List ℕ) (h : ℕ)
   pub told-by : (l : List ℕ) → l ≡ counts-of n cs h → told (h + 1) l ≡ told ((region-of ps n hs cs h) .holes + 1) (nine-counts (region-of ps n hs cs h))
   unfolding region-of
   told-by l e = ap (told (h + 1)) (e ∙ sym (counts-are ps n hs cs h))
+
+-- what is told where nothing is written
+module _ (r : Region) (g : Bool) (e : g ≡ proper-region r) (x : RegionWritten) where
+  pub told-no : not g ≡ true → x ≡ no-rings Shape → x ≡ region-told r
+  unfolding region-told rings-told ask-region ask granted number values
+  told-no t q = let f : proper-region r ≡ false = sym e ∙ not-true g t in rw f q
+
+  pub told-yes : not g ≡ false → x ≡ told (r .holes + 1) (nine-counts r) → x ≡ region-told r
+  unfolding region-told rings-told ask-region ask granted number values
+  told-yes t q = let f : proper-region r ≡ true = sym e ∙ not-false g t in rw f q

@@ -3,7 +3,11 @@ use Prim.Native.Nat.{ℕ, zero, suc, _+_, _*_, _≤_}
 use mathlib.Core.List.{List}
 use lib.ListN.{getD, drop, set, replicate}
 use lib.Ieee.{Float}
+use Rattle.error.specs.declared.Refusal.the-variants.{Granted}
 use Rattle.base.specs.Loop.{rounds}
+use Rattle.region.specs.declared.Region.{Region}
+use Rattle.region.specs.declared.RegionWritten.{RegionWritten}
+use Rattle.region.specs.Queries.{ask-region, rings-told}
 
 -- ring 0 is the outer one, ring k + 1 is hole k
 
@@ -34,7 +38,11 @@ pub record Few (n : ℕ) (cs : List ℕ) (h : ℕ) : Type 0 where
   pub holes : h ≤ 8
   pub each : (k : ℕ) → k ≤ h → count-of n cs k ≤ 128
 
+-- the rings of a region and the vertices of each, where there is nothing to write to: 21
+unfoldable pub region-told : Region → RegionWritten
+region-told r = rings-told r (ask-region r Granted)
+
 -- opens every definition above, for a proof that computes with all of them
 unfoldable pub open-rings : Unit {0}
-unfolding count-of points-of before-of-step before-of counts-of-step counts-of
+unfolding count-of points-of before-of-step before-of counts-of-step counts-of region-told
 open-rings = tt

@@ -112,6 +112,28 @@ pub fn no_rings(r: Refusal) -> RegionWritten
     }
 }
 
+// What a write of a region tells, where there is nothing to write to: 21.
+pub fn tell_region<'a>(
+    ps: &'a [f64],
+    n: usize,
+    hs: &'a [f64],
+    cs: &'a [usize],
+    h: usize,
+) -> RegionWritten
+    ensures { λ r. ⌜ r ≡ Rings.region-told (Regions.region-of (now (ps .entry)) n (now (hs .entry)) (now (cs .entry)) h) ⌝ }
+{
+    if !region_given::proper_region(ps, n, hs, cs, h) {
+        return no_rings(Refusal::Shape);
+    }
+    let counts = ring_counts(n, cs, h);
+    let rings = h + 1;
+    RegionWritten {
+        refusal: Refusal::Granted,
+        rings: rings,
+        counts: counts,
+    }
+}
+
 // A region to lent output: 21, then 20. A refused write changes nothing, and a granted one only the numbers that it writes.
 pub fn write_region<'a>(
     ps: &'a [f64],

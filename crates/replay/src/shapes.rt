@@ -7,9 +7,9 @@ use plane::PlanarPoint;
 
 pub(crate) fn place(c: Containment) -> usize {
     match c {
-        Containment::Inside => 0,
+        Containment::Outside => 0,
         Containment::OnBoundary => 1,
-        Containment::Outside => 2,
+        Containment::Inside => 2,
     }
 }
 

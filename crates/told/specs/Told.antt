@@ -14,6 +14,9 @@ use Rattle.told.specs.declared.LwOutline.{LwOutline}
 use Rattle.told.specs.declared.LwPlace.{LwPlace}
 use Rattle.told.specs.declared.LwNearest.{LwNearest}
 use Rattle.told.specs.declared.LwArea.{LwArea}
+use Rattle.told.specs.declared.LwLength.{LwLength}
+use Rattle.told.specs.declared.LwPoint.{LwPoint}
+use Rattle.told.specs.declared.LwEdge.{LwEdge}
 use Rattle.told.specs.declared.LwOffset.{LwOffset}
 use Rattle.told.specs.declared.LwRegion.{LwRegion}
 use Rattle.told.specs.declared.LwRegionOffset.{LwRegionOffset}
@@ -31,9 +34,9 @@ outline-answer c n = record { refusal = c .question; ring = c .ring; first = c .
 -- ---- questions about an outline handed in
 
 unfoldable pub place-number : Containment → ℕ
-place-number Inside = 0
+place-number Outside = 0
 place-number OnBoundary = 1
-place-number Outside = 2
+place-number Inside = 2
 
 unfoldable pub place-answer : Carried → Containment → LwPlace
 place-answer c p = record { refusal = c .question; first = c .first; place = place-number p }
@@ -43,6 +46,22 @@ nearest-answer c d p = record { refusal = c .question; first = c .first; distanc
 
 unfoldable pub area-answer : Carried → Float → LwArea
 area-answer c x = record { refusal = c .question; area = x }
+
+unfoldable pub length-answer : Carried → Float → LwLength
+length-answer c x = record { refusal = c .question; length = x }
+
+unfoldable pub point-answer : Carried → PlanarPoint → LwPoint
+point-answer c p = record { refusal = c .question; east = p .east; north = p .north }
+
+unfoldable pub edge-answer : Carried → PlanarPoint → PlanarPoint → LwEdge
+edge-answer c a b =
+    record {
+      refusal = c .question;
+      «start_east» = a .east;
+      «start_north» = a .north;
+      «end_east» = b .east;
+      «end_north» = b .north;
+    }
 
 -- ---- offsets of an outline handed in: the vertices written, and the completed events
 
@@ -60,7 +79,7 @@ offset-answer c n collapses divides joins =
       joins = joins;
     }
 
--- ---- a region: the rings written, the vertices of each, and of an inset the completed events
+-- ---- a region: its rings, the vertices of each, and of an inset the completed events
 
 unfoldable pub region-answer : Carried → ℕ → List ℕ → LwRegion
 region-answer c rings counts =
@@ -96,5 +115,6 @@ line-answer u c n = record { refusal = c .question; count = cond (granted u) n (
 
 -- opens every definition above, for a proof that computes with all of them
 unfoldable pub open-told : Unit {0}
-unfolding vertices outline-answer place-number place-answer nearest-answer area-answer offset-answer region-answer inset-answer line-answer
+unfolding vertices outline-answer place-number place-answer nearest-answer area-answer length-answer point-answer edge-answer
+    offset-answer region-answer inset-answer line-answer
 open-told = tt

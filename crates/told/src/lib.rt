@@ -18,7 +18,7 @@ pub struct LwOutline {
     pub count: usize,
 }
 
-// Where a point lies: 0 inside, 1 on the boundary, 2 outside. `first` is the index that 2 carries.
+// Where a point lies: 0 outside, 1 on the boundary, 2 inside. `first` is the index that 2 carries.
 #[repr(C)]
 pub struct LwPlace {
     pub refusal: usize,
@@ -43,6 +43,31 @@ pub struct LwArea {
     pub area: f64,
 }
 
+// A length: a perimeter, an extent, a clearance.
+#[repr(C)]
+pub struct LwLength {
+    pub refusal: usize,
+    pub length: f64,
+}
+
+// A point.
+#[repr(C)]
+pub struct LwPoint {
+    pub refusal: usize,
+    pub east: f64,
+    pub north: f64,
+}
+
+// An edge, by its two ends.
+#[repr(C)]
+pub struct LwEdge {
+    pub refusal: usize,
+    pub start_east: f64,
+    pub start_north: f64,
+    pub end_east: f64,
+    pub end_north: f64,
+}
+
 // What an offset answers: the refusal's number and what it carries, the vertices written, and the completed events.
 #[repr(C)]
 pub struct LwOffset {
@@ -57,7 +82,8 @@ pub struct LwOffset {
     pub joins: usize,
 }
 
-// What the check of a region answers: the refusal's number, 0 where granted, what it carries, the rings written and the vertices of each.
+// What the check of a region answers: the refusal's number, 0 where granted, what it carries, the rings and the vertices of each. They are
+// written, but where a region handed in is only judged.
 #[repr(C)]
 pub struct LwRegion {
     pub refusal: usize,
@@ -84,7 +110,8 @@ pub struct LwRegionOffset {
     pub joins: usize,
 }
 
-// What a job line answers: 0 and the bytes written, or 20 and the bytes needed.
+// What a job line answers: 0 and the bytes written, or 20 and the bytes needed. What the making of a stream's state answers: the bytes that
+// it has to have, either way.
 #[repr(C)]
 pub struct LwLine {
     pub refusal: usize,
@@ -102,9 +129,9 @@ pub(crate) fn place_number(c: Containment) -> usize
     ensures { λ r. ⌜ r ≡ Told.place-number c ⌝ }
 {
     match c {
-        Containment::Inside => 0,
+        Containment::Outside => 0,
         Containment::OnBoundary => 1,
-        Containment::Outside => 2,
+        Containment::Inside => 2,
     }
 }
 
@@ -153,6 +180,40 @@ pub fn area(refusal: Refusal, value: f64) -> LwArea
     LwArea {
         refusal: c.question,
         area: value,
+    }
+}
+
+pub fn length(refusal: Refusal, value: f64) -> LwLength
+    ensures { λ r. ⌜ r ≡ Told.length-answer (Carries.carried refusal) value ⌝ }
+{
+    let c = Carried::new(refusal);
+    LwLength {
+        refusal: c.question,
+        length: value,
+    }
+}
+
+pub fn point(refusal: Refusal, p: PlanarPoint) -> LwPoint
+    ensures { λ r. ⌜ r ≡ Told.point-answer (Carries.carried refusal) p ⌝ }
+{
+    let c = Carried::new(refusal);
+    LwPoint {
+        refusal: c.question,
+        east: p.east,
+        north: p.north,
+    }
+}
+
+pub fn edge(refusal: Refusal, start: PlanarPoint, end: PlanarPoint) -> LwEdge
+    ensures { λ r. ⌜ r ≡ Told.edge-answer (Carries.carried refusal) start end ⌝ }
+{
+    let c = Carried::new(refusal);
+    LwEdge {
+        refusal: c.question,
+        start_east: start.east,
+        start_north: start.north,
+        end_east: end.east,
+        end_north: end.north,
     }
 }
 

@@ -1,7 +1,5 @@
 -- `region_c::region_into` meets its contract. Assumes nothing.
-use mathlib.Core.Path.{sym, _∙_}
-use Rattle.region.specs.Regions.{region-of}
-use Rattle.region_c.proofs.Made.{region-yes, region-no}
+use Rattle.region_c.proofs.Made.{made-as}
 use borrow.Author.Needs.{needs}
 use Rattle.region_c.proofs.region_into.Statement.{statement}
 use Rattle.region_c.proofs.region_into.Tie as tie
@@ -9,44 +7,20 @@ use Rattle.region_c.proofs.region_into.Tie as tie
 new-requires : tie.Need-new-requires
 new-requires c κs = search needs
 
-granted-requires : tie.Need-granted-requires
-granted-requires c κs = search needs
-
-write-region-requires : tie.Need-write-region-requires
-write-region-requires c κs = search needs
-
-no-rings-requires : tie.Need-no-rings-requires
-no-rings-requires c κs = search needs
+made-into-requires : tie.Need-made-into-requires
+made-into-requires c κs = search needs
 
 same-length : tie.Need-same-length
 same-length c = search needs
 
 returns : tie.Need-returns
-unfolding region-of
-returns c =
-    let c8 = c .before .before .before .before .before .before .before .before in
-    let c16 = c8 .before .before .before .before .before .before .before .before in
-    let new-gives = c16 .new .ensures in
-    let granted-gives = c8 .before .before .before .before .before .before .before .granted .ensures in
-    let yes1 = c8 .before .before .before .before .before .before .if1 .taken in
-    let write-region-gives = c .before .before .write-region .ensures in
-    region-yes _ _ (new-gives .0) _ _ _ (sym granted-gives ∙ yes1) (write-region-gives .0) (write-region-gives .1 .0)
-
-returns-2 : tie.Need-returns-2
-returns-2 c =
-    let new-gives = c .before .before .before .new .ensures in
-    let granted-gives = c .before .before .granted .ensures in
-    let no1 = c .before .if1 .left in
-    region-no _ _ (new-gives .0) _ _ (sym granted-gives ∙ no1) (c .no-rings .ensures)
+returns c = made-as _ _ (c .before .before .before .before .new .ensures .0) _ _ _ (c .before .before .made-into .ensures)
 
 pub region-into-spec : {M : Type 1} → statement M
 region-into-spec =
     tie.close
     (tie.spec
     new-requires
-    granted-requires
-    write-region-requires
-    no-rings-requires
+    made-into-requires
     same-length
-    returns
-    returns-2)
+    returns)

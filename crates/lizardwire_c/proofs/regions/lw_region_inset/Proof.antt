@@ -1,8 +1,8 @@
--- `lizardwire_c::lw_region_inset` meets its contract. Assumes nothing.
+-- `lizardwire_c::regions::lw_region_inset` meets its contract. Assumes nothing.
 use Rattle.region_c.specs.Told
 use borrow.Author.Needs.{needs}
-use Rattle.lizardwire_c.proofs.lw_region_inset.Statement.{statement}
-use Rattle.lizardwire_c.proofs.lw_region_inset.Tie as tie
+use Rattle.lizardwire_c.proofs.regions.lw_region_inset.Statement.{statement}
+use Rattle.lizardwire_c.proofs.regions.lw_region_inset.Tie as tie
 
 inset-into-requires : tie.Need-inset-into-requires
 inset-into-requires c κs = search needs

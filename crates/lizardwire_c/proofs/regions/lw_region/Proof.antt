@@ -1,8 +1,8 @@
--- `lizardwire_c::lw_region` meets its contract. Assumes nothing.
+-- `lizardwire_c::regions::lw_region` meets its contract. Assumes nothing.
 use Rattle.region_c.specs.Told
 use borrow.Author.Needs.{needs}
-use Rattle.lizardwire_c.proofs.lw_region.Statement.{statement}
-use Rattle.lizardwire_c.proofs.lw_region.Tie as tie
+use Rattle.lizardwire_c.proofs.regions.lw_region.Statement.{statement}
+use Rattle.lizardwire_c.proofs.regions.lw_region.Tie as tie
 
 region-into-requires : tie.Need-region-into-requires
 region-into-requires c κs = search needs

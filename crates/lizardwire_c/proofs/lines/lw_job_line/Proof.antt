@@ -1,8 +1,8 @@
--- `lizardwire_c::lw_job_line` meets its contract. Assumes nothing.
+-- `lizardwire_c::lines::lw_job_line` meets its contract. Assumes nothing.
 use Rattle.lizardwire_c.specs.Exports
 use borrow.Author.Needs.{needs}
-use Rattle.lizardwire_c.proofs.lw_job_line.Statement.{statement}
-use Rattle.lizardwire_c.proofs.lw_job_line.Tie as tie
+use Rattle.lizardwire_c.proofs.lines.lw_job_line.Statement.{statement}
+use Rattle.lizardwire_c.proofs.lines.lw_job_line.Tie as tie
 
 answer-line-requires : tie.Need-answer-line-requires
 answer-line-requires c κs = search needs

@@ -1,0 +1,16 @@
+-- `region_c::stored_inset_into` meets its contract. Assumes nothing.
+use borrow.Author.Needs.{needs}
+use Rattle.region_c.proofs.stored_inset_into.Statement.{statement}
+use Rattle.region_c.proofs.stored_inset_into.Tie as tie
+
+inset-by-requires : tie.Need-inset-by-requires
+inset-by-requires c κs = search needs
+
+same-length : tie.Need-same-length
+same-length c = search needs
+
+returns : tie.Need-returns
+returns c = c .before .before .inset-by .ensures
+
+pub stored-inset-into-spec : {M : Type 1} → statement M
+stored-inset-into-spec = tie.close (tie.spec inset-by-requires same-length returns)

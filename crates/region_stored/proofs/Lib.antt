@@ -1,0 +1,5 @@
+pub mod Walks
+pub mod Again
+pub mod AsOutlines
+pub mod AsStored
+pub mod Rewritten
