@@ -1,22 +1,24 @@
-/* Lizardwire for C and C++: cages of outlines and regions.
+/* Lizardwire for C (C99) and C++: cages of outlines and regions.
  *
- * Link with target/staticlib/liblizardwire_c.a or target/shared/liblizardwire.so
+ * Link with target/shared/liblizardwire.so or target/shared/liblizardwire.a
  * (`tools/library` builds both). The library is for x86-64 Linux. It allocates
  * nothing, keeps nothing between calls, calls nothing of yours, and may be
- * called from any number of threads at once. A job line takes 193 KB of stack,
- * a region's inset 165, an outline's offset 131, the check of a region 59, and
- * anything else less than 2 KB (a KB is 1,000 bytes).
+ * called from any number of threads at once. A job line takes 200 KB of stack,
+ * a region's inset 169, an outline's offset 131, the check of a region 59, any
+ * other question about a region 26, and anything else less than 2 KB (a KB is
+ * 1,000 bytes).
  *
  * Numbers come as one flat list of doubles, east then north of each vertex.
  * Every bit pattern is allowed in them, NaN too. What a caller owes is what C
- * cannot check: a pointer leads to as many numbers as the count beside it says,
- * is not NULL (where the count is 0, any address will do), and what is lent as
- * output is not part of the input.
+ * cannot check: a pointer is not NULL and leads to as many numbers as the count
+ * beside it says (where the count is 0, any other address will do), what is lent as
+ * output shares no memory with the input, and the processor rounds to nearest and
+ * keeps subnormal numbers (in a program linked with -ffast-math it may not).
  *
- * Every function but lw_hypot answers in a struct. `refusal` is 0 where the call
- * is granted. Otherwise it is the number of the first question that was answered
- * with no, the other fields carry what belongs to it, and the lent output is as
- * it was. A granted call changes only the numbers that it writes.
+ * Every function of the library but lw_version and lw_hypot answers in a struct.
+ * `refusal` is 0 where the call is granted. Otherwise it is the number of the first
+ * question that was answered with no, the other fields carry what belongs to it, and
+ * the lent output is as it was. A granted call changes only the numbers that it writes.
  *
  * Whether edges meet is told exactly, with nothing rounded: of an outline that is
  * accepted, no two edges that are no neighbours share a point. Two that 9 names
@@ -34,36 +36,7 @@
  * (10,10) with the hole (1,4) (3,4) (3,6) (1,6) inset by 0.75 gets it, and an area
  * of 61.75 is left. README.md says more under "What is not covered".
  *
- *  refusal                                             fields that carry
- *   1  the count of numbers is odd
- *   2  a number is not finite                          first: its index
- *   3  no ring, or vertex counts that do not add up
- *      to the points
- *   4  fewer than three vertices                       ring; first: vertices found
- *   5  a coordinate beyond +-1e9                       ring; value: the coordinate
- *   6  more vertices than there is room for: 128, in
- *      a hole 32                                       ring; first: needed, second: room
- *   7  a vertex equal to its neighbour                 ring
- *   8  an area of nothing beside the outline's span    ring
- *   9  two edges cross or touch                        ring; first, second: the two edges
- *  10  more than 8 holes                               first: holes given
- *  11  a hole that reaches the outer ring or lies
- *      outside it                                      first: the hole
- *  12  two holes that touch or overlap                 first, second: the two holes
- *  13  a distance that is not finite, or above 1e12
- *  14  a distance below 0                              value: the distance
- *  15  a front of more than 128 edges                  first: needed
- *  16  nothing is left at that distance                value: the distance
- *  17  what is left is not one piece, or not clear of
- *      the source                                      value: the distance
- *  18  387 events did not bring the front to the
- *      distance                                        first: 387, value: what remained
- *  19  more than 8 holes are left                      first: 9
- *  20  the lent output is too short                    first: numbers (or bytes) needed
- *  21  a shape handed in is none: counts or
- *      coordinates out of bounds
- *  22  an ill-formed job line
- *
+ * The refusals, and what goes with each, stand in the enum LwRefusal below.
  * A field that a refusal does not carry reads 0. Rings, edges, vertices, holes
  * and indices count from 0: ring 0 is the outer one, ring k is hole k - 1, and
  * edge k runs from vertex k to the next. 4, 5 and 6 can also come from an
@@ -79,22 +52,110 @@
 extern "C" {
 #endif
 
+/* The refusals by their numbers, with what the fields carry. */
+typedef enum LwRefusal {
+    LW_GRANTED = 0,
+    /* the count of numbers is odd */
+    LW_REFUSED_ODD = 1,
+    /* a number is not finite (first: its index) */
+    LW_REFUSED_NOT_FINITE = 2,
+    /* no ring, or vertex counts that do not add up to the points */
+    LW_REFUSED_LENGTHS = 3,
+    /* fewer than three vertices (ring; first: vertices found) */
+    LW_REFUSED_FEW = 4,
+    /* a coordinate beyond +-1e9 (ring; value: the coordinate) */
+    LW_REFUSED_RANGE = 5,
+    /* more vertices than there is room for: 128, in a hole 32 (ring; first: needed, second: room) */
+    LW_REFUSED_ROOM = 6,
+    /* a vertex equal to its neighbour (ring) */
+    LW_REFUSED_REPEATED = 7,
+    /* an area of nothing beside the outline's span (ring) */
+    LW_REFUSED_FLAT = 8,
+    /* two edges cross or touch (ring; first, second: the two edges) */
+    LW_REFUSED_CROSSED = 9,
+    /* more than 8 holes (first: holes given) */
+    LW_REFUSED_MANY_HOLES = 10,
+    /* a hole that reaches the outer ring or lies outside it (first: the hole) */
+    LW_REFUSED_HOLE_OUTSIDE = 11,
+    /* two holes that are not apart (first, second: the two holes) */
+    LW_REFUSED_HOLES_TOUCH = 12,
+    /* a distance that is not finite, or above 1e12 */
+    LW_REFUSED_FAR = 13,
+    /* a distance below 0 (value: the distance) */
+    LW_REFUSED_NEGATIVE = 14,
+    /* a front of more than 128 edges (first: needed) */
+    LW_REFUSED_SLOTS = 15,
+    /* nothing is left at that distance (value: the distance) */
+    LW_REFUSED_COLLAPSES = 16,
+    /* what is left is not one piece, or not clear of the source (value: the distance) */
+    LW_REFUSED_SPLITS = 17,
+    /* 387 events did not bring the front to the distance (first: 387, value: what remained) */
+    LW_REFUSED_UNFINISHED = 18,
+    /* more than 8 holes are left (first: 9) */
+    LW_REFUSED_MANY_PIECES = 19,
+    /* lent memory is too short (first: numbers (or bytes) needed) */
+    LW_REFUSED_SHORT = 20,
+    /* a shape or a stream's state handed in is none: counts or coordinates out of bounds */
+    LW_REFUSED_SHAPE = 21,
+    /* an ill-formed job line */
+    LW_REFUSED_JOB = 22
+} LwRefusal;
+
+/* One line of words for the number of a refusal, without what it carries. */
+static inline const char *lw_words(size_t refusal) {
+    switch (refusal) {
+    case LW_REFUSED_ODD: return "the count of numbers is odd: a vertex is two";
+    case LW_REFUSED_NOT_FINITE: return "a coordinate is not a finite number";
+    case LW_REFUSED_LENGTHS: return "there is no ring, or the vertex counts do not add up to the points";
+    case LW_REFUSED_FEW: return "a ring has fewer than 3 vertices";
+    case LW_REFUSED_RANGE: return "a coordinate is beyond 1e9";
+    case LW_REFUSED_ROOM: return "a ring has too many vertices";
+    case LW_REFUSED_REPEATED: return "a vertex stands twice in a row";
+    case LW_REFUSED_FLAT: return "a ring is flat: it encloses nothing";
+    case LW_REFUSED_CROSSED: return "two edges cross";
+    case LW_REFUSED_MANY_HOLES: return "there are more than 8 holes";
+    case LW_REFUSED_HOLE_OUTSIDE: return "a ring is not inside the first one";
+    case LW_REFUSED_HOLES_TOUCH: return "two holes are not apart";
+    case LW_REFUSED_FAR: return "the distance is not a number up to 1e12";
+    case LW_REFUSED_NEGATIVE: return "the distance is below 0";
+    case LW_REFUSED_SLOTS: return "too many edges: 128 can move at once";
+    case LW_REFUSED_COLLAPSES: return "nothing is left: the margin is too wide";
+    case LW_REFUSED_SPLITS: return "the cage falls apart or meets the outline";
+    case LW_REFUSED_UNFINISHED: return "the cage was not finished in 387 events";
+    case LW_REFUSED_MANY_PIECES: return "more than 8 holes would be left";
+    case LW_REFUSED_SHORT: return "the lent memory is too short";
+    case LW_REFUSED_SHAPE: return "this is not a shape, or not a stream's state";
+    case LW_REFUSED_JOB: return "this is not a job line";
+    default: return refusal ? "refused" : "granted";
+    }
+}
+
+/* The version of this header. It goes up with every function that is added; one that is
+ * here stays as it is for as long as the number in the shared library's name does. */
+#define LW_VERSION 1
+
 /* The most that a shape holds. */
 #define LW_VERTICES 128      /* an outline, or the outer ring of a region */
 #define LW_HOLES 8           /* holes of a region */
 #define LW_HOLE_VERTICES 32  /* a hole */
 /* Lent output of this many numbers is never too short: so much is in a full shape. */
-#define LW_OUTLINE_NUMBERS 256  /* lw_outline, lw_inset, lw_outset */
-#define LW_REGION_NUMBERS 768   /* lw_region, lw_region_inset */
+#define LW_OUTLINE_NUMBERS 256  /* an outline or a hole */
+#define LW_REGION_NUMBERS 768   /* a region */
 /* The longest job line that is read, in bytes, LF not counted. An answer line has
  * at most 13,098, which is proved, so lent output of this many bytes is never too
  * short. */
 #define LW_LINE_BYTES 16384
+/* The state of a stream of job lines, in bytes; and lent output of a stream that any
+ * answer fits, with its LF. */
+#define LW_STREAM_BYTES 16387
+#define LW_STREAM_OUTPUT 16385
 
-/* What lw_contains answers in `place`. */
-#define LW_INSIDE 0
+/* What lw_contains and lw_region_contains answer in `place`: 0 is outside. */
+#define LW_OUTSIDE 0
 #define LW_ON_BOUNDARY 1
-#define LW_OUTSIDE 2
+#define LW_INSIDE 2
+
+/* ---- what is answered */
 
 typedef struct LwOutline {
     size_t refusal;
@@ -106,7 +167,7 @@ typedef struct LwOutline {
 typedef struct LwPlace {
     size_t refusal;
     size_t first;
-    size_t place;  /* LW_INSIDE, LW_ON_BOUNDARY, LW_OUTSIDE; LW_OUTSIDE where refused */
+    size_t place;  /* LW_OUTSIDE, LW_ON_BOUNDARY, LW_INSIDE; LW_OUTSIDE where refused */
 } LwPlace;
 
 typedef struct LwNearest {
@@ -121,6 +182,22 @@ typedef struct LwArea {
     double area;  /* 0 where refused */
 } LwArea;
 
+typedef struct LwLength {
+    size_t refusal;
+    double length;  /* 0 where refused */
+} LwLength;
+
+typedef struct LwPoint {
+    size_t refusal;
+    double east, north;  /* 0 where refused */
+} LwPoint;
+
+typedef struct LwEdge {
+    size_t refusal;
+    double start_east, start_north;  /* 0 where refused, as are the two below */
+    double end_east, end_north;
+} LwEdge;
+
 typedef struct LwOffset {
     size_t refusal;
     size_t ring, first, second;
@@ -130,48 +207,6 @@ typedef struct LwOffset {
      * a ring into two, splits that made two rings one. */
     size_t collapses, divides, joins;
 } LwOffset;
-
-/* The double nearest to the root of x*x + y*y, ties to even. hypot(0, 0) is 0;
- * a root past the largest double is infinity; an infinite operand gives
- * infinity, even beside a NaN; otherwise a NaN gives NaN. Never refused. */
-double lw_hypot(double x, double y);
-
-/* Are these numbers an outline, and of how many vertices?
- * Refusals: 1, 2, 4 to 9, ring 0. One closing repeat of the first vertex is dropped. */
-LwOutline lw_check(const double *numbers, size_t count);
-
-/* The outline of these numbers, written to `out`: the numbers as they are, or,
- * where they run clockwise, reversed with the first vertex kept.
- * Refusals: those of lw_check, then 20. */
-LwOutline lw_outline(const double *numbers, size_t count, double *out, size_t out_count);
-
-/* The functions below take an outline as lw_outline writes it, and work on
- * what they are given as it is. 21 is an odd count, fewer than 3 or more than
- * 128 vertices, or a number that is not within +-1e9. */
-
-/* Where does the point lie? Any finite point may be asked. The boundary is told
- * exactly. Refusals: 21, then 2 of the point (0 east, 1 north). */
-LwPlace lw_contains(const double *outline, size_t count, double east, double north);
-
-/* The nearest point of the boundary, and how far it is. Refusals: as lw_contains. */
-LwNearest lw_nearest(const double *outline, size_t count, double east, double north);
-
-/* The area enclosed. Refusals: 21. */
-LwArea lw_area(const double *outline, size_t count);
-
-/* The ring that the edges make once they have moved inward by the distance,
- * corners mitred, written to `out`. Refusals: 21, 13, 14, then 4, 5, 6 and 15 to
- * 18 as the offset meets them, then 20. At distance 0 it is the outline itself.
- * Above 0 each of its vertices lies, measured exactly, at least
- *     distance - 2e-9 * (1 + distance + largest) - 1e-15 * largest
- * from every edge of the outline, `largest` being the largest absolute coordinate
- * of the outline and nothing being rounded. */
-LwOffset lw_inset(const double *outline, size_t count, double distance, double *out, size_t out_count);
-
-/* Outward, likewise, but of exact distances nothing is promised. */
-LwOffset lw_outset(const double *outline, size_t count, double distance, double *out, size_t out_count);
-
-/* ---- regions and job lines */
 
 typedef struct LwRegion {
     size_t refusal;
@@ -192,8 +227,86 @@ typedef struct LwRegionOffset {
 
 typedef struct LwLine {
     size_t refusal;  /* 0 or 20 */
-    size_t count;    /* bytes of the answer line: those written, or with 20 those needed */
+    size_t count;    /* bytes: those of the answer or of the state, or with 20 those needed */
 } LwLine;
+
+typedef struct LwFed {
+    size_t refusal;  /* 0, 20 or 21 */
+    size_t first;    /* with 20: the bytes needed, of the state or of the output */
+    size_t taken;    /* bytes of the block that are done with */
+    size_t written;  /* bytes of the output that are answers; 0 where refused */
+} LwFed;
+
+/* The version of the library that is linked: LW_VERSION as it was built. One below that of
+ * this header is an older library, in which functions can be missing. */
+size_t lw_version(void);
+
+/* The double nearest to the root of x*x + y*y, ties to even. hypot(0, 0) is 0;
+ * a root past the largest double is infinity; an infinite operand gives
+ * infinity, even beside a NaN; otherwise a NaN gives NaN. Never refused. */
+double lw_hypot(double x, double y);
+
+/* ---- outlines as they are drawn */
+
+/* Are these numbers an outline, and of how many vertices?
+ * Refusals: 1, 2, 4 to 9, ring 0. One closing repeat of the first vertex is dropped. */
+LwOutline lw_check(const double *numbers, size_t count);
+
+/* The outline of these numbers, written to `out`: the numbers as they are, or,
+ * where they run clockwise, reversed with the first vertex kept.
+ * Refusals: those of lw_check, then 20. */
+LwOutline lw_outline(const double *numbers, size_t count, double *out, size_t out_count);
+
+/* ---- outlines handed in
+ *
+ * The functions below take an outline as lw_outline, lw_inset and lw_outset write
+ * it, and work on what they are given as it is: `count` is that of its numbers, two a
+ * vertex. 21 is an odd count, fewer than 3 or more than 128 vertices, or a number that
+ * is not within +-1e9. The outline runs counter-clockwise; that is not asked, but the
+ * offsets go by it. lw_outline turns one round that runs clockwise. */
+
+/* Where does the point lie? Any finite point may be asked. The boundary is told
+ * exactly. Refusals: 21, then 2 of the point (0 east, 1 north). */
+LwPlace lw_contains(const double *outline, size_t count, double east, double north);
+
+/* The nearest point of the boundary, and how far it is; where that is past the largest
+ * double, the distance reads 0 and the point is the one asked. Refusals: as lw_contains. */
+LwNearest lw_nearest(const double *outline, size_t count, double east, double north);
+
+/* The area enclosed. Refusals: 21. */
+LwArea lw_area(const double *outline, size_t count);
+
+/* The length of the boundary. Refusals: 21. */
+LwLength lw_perimeter(const double *outline, size_t count);
+
+/* The largest absolute coordinate. Refusals: 21. */
+LwLength lw_extent(const double *outline, size_t count);
+
+/* The clearance of the second outline from the first: the least distance from a vertex
+ * of the second to an edge of the first, and 0 if an edge of one meets an edge of the
+ * other. Refusals: 21 of the first, then of the second. */
+LwLength lw_clearance(const double *first, size_t first_count, const double *second, size_t second_count);
+
+/* Vertex k; (0, 0) where there are no more than k. Refusals: 21. */
+LwPoint lw_vertex(const double *outline, size_t count, size_t k);
+
+/* Edge k, from vertex k to the next, the last one closing the ring; (0, 0) twice where
+ * there are no more than k. Refusals: 21. */
+LwEdge lw_edge(const double *outline, size_t count, size_t k);
+
+/* The ring that the edges make once they have moved inward by the distance,
+ * corners mitred, written to `out`. Refusals: 21, 13, 14, then 4, 5, 6 and 15 to
+ * 18 as the offset meets them, then 20. At distance 0 it is the outline itself.
+ * Above 0 each of its vertices lies, measured exactly, at least
+ *     distance - 2e-9 * (1 + distance + largest) - 1e-15 * largest
+ * from every edge of the outline, `largest` being the largest absolute coordinate
+ * of the outline and nothing being rounded. */
+LwOffset lw_inset(const double *outline, size_t count, double distance, double *out, size_t out_count);
+
+/* Outward, likewise, but of exact distances nothing is promised. */
+LwOffset lw_outset(const double *outline, size_t count, double distance, double *out, size_t out_count);
+
+/* ---- regions as they are drawn */
 
 /* The region of these numbers: `lengths` has the vertex count of each ring,
  * the outer one first. Its rings are written to `out` one after the other, each
@@ -210,9 +323,102 @@ LwRegion lw_region(const double *numbers, size_t count, const size_t *lengths, s
 LwRegionOffset lw_region_inset(const double *numbers, size_t count, const size_t *lengths, size_t rings,
                                double distance, double *out, size_t out_count);
 
+/* ---- regions handed in
+ *
+ * The functions below take rings as lw_region and the insets write them, one after the
+ * other, with the vertex count of each, the outer one first: `counts` and `rings` of the
+ * answer, and lw_numbers of these. They work on what they are given as it is; but for
+ * lw_given_region, whether holes lie inside and apart is not asked again. 21 is an odd
+ * count, no ring, counts that do not add up to the points, more than 8 holes, an outer
+ * ring of fewer than 3 or more than 128 vertices, a hole of fewer than 3 or more than 32,
+ * or a number that is not within +-1e9.
+ *
+ * Each ring runs counter-clockwise, holes too. That is not asked: of a hole that runs
+ * clockwise, as in GeoJSON, an inset can be granted without it, and the cage then runs
+ * over the hole. lw_region turns such rings round. */
+
+/* How many numbers the rings are, two a vertex, of counts that the library answered: of
+ * others the sum can pass the largest size_t and begin again at 0. */
+static inline size_t lw_numbers(const size_t *counts, size_t rings) {
+    size_t numbers = 0;
+    for (size_t k = 0; k < rings; k++) {
+        numbers += 2 * counts[k];
+    }
+    return numbers;
+}
+
+/* The region of given outlines, the outer one first, each as lw_outline writes it, written to
+ * `out` as they are: one that runs clockwise is not turned round.
+ * Refusals: 21 (not of more than 8 holes), 10, 11, 12, then 20. */
+LwRegion lw_given_region(const double *numbers, size_t count, const size_t *counts, size_t rings,
+                         double *out, size_t out_count);
+
+/* A given outline as a region without holes, written to `out` as it is, not turned round.
+ * Refusals: 21, then 20. */
+LwRegion lw_without_holes(const double *outline, size_t count, double *out, size_t out_count);
+
+/* Does 21 pass this region? Its rings and counts are told. Refusals: 21. */
+LwRegion lw_stored_region(const double *numbers, size_t count, const size_t *counts, size_t rings);
+
+/* The inset of a region as it is, so that an inset can be inset again. Refusals: 21, 13, 14,
+ * then 4, 5, 6 and 15 to 19 as the offset meets them, then 20. How far its vertices lie from
+ * what is handed in, lw_region_inset says. */
+LwRegionOffset lw_stored_region_inset(const double *numbers, size_t count, const size_t *counts, size_t rings,
+                                      double distance, double *out, size_t out_count);
+
+/* Where does the point lie? One in a hole is outside, one on an edge of a hole is on the
+ * boundary; but where that edge is right beside the outer ring, it can be told outside.
+ * Any finite point may be asked. Refusals: 21, then 2 of the point (0 east, 1 north). */
+LwPlace lw_region_contains(const double *numbers, size_t count, const size_t *counts, size_t rings,
+                           double east, double north);
+
+/* The nearest point of the boundary, that of the holes too, and how far it is; past the
+ * largest double as lw_nearest. Refusals: as lw_region_contains. */
+LwNearest lw_region_nearest(const double *numbers, size_t count, const size_t *counts, size_t rings,
+                            double east, double north);
+
+/* The area inside the outer ring and outside every hole. Refusals: 21. */
+LwArea lw_region_area(const double *numbers, size_t count, const size_t *counts, size_t rings);
+
+/* The length of the outer ring and of every hole. Refusals: 21. */
+LwLength lw_region_perimeter(const double *numbers, size_t count, const size_t *counts, size_t rings);
+
+/* The outer ring as an outline, written to `out`. Refusals: 21, then 20. */
+LwOutline lw_region_outer(const double *numbers, size_t count, const size_t *counts, size_t rings,
+                          double *out, size_t out_count);
+
+/* Hole k as an outline, written to `out`; where there are no more than k, `count` is 0 and
+ * nothing is written. Refusals: 21, then 20. */
+LwOutline lw_region_hole(const double *numbers, size_t count, const size_t *counts, size_t rings,
+                         size_t k, double *out, size_t out_count);
+
+/* ---- job lines */
+
 /* The answer to one job line, both without LF. A refused job is an answer, too:
  * `no` and the number. Refusals: 20, `count` then being the bytes needed. */
 LwLine lw_job_line(const uint8_t *line, size_t length, uint8_t *out, size_t out_length);
+
+/* A stream of job lines: makes a state in lent memory, LW_STREAM_BYTES of it. Feed the input
+ * block by block, cut anywhere, and finish; what is written, joined, has one answer a line.
+ * Refusals: 20, `count` then being LW_STREAM_BYTES and the memory as it was. */
+LwLine lw_stream(uint8_t *state, size_t state_length);
+
+/* Takes the next bytes of the input, and writes the answers of the lines that end in them,
+ * each with its LF. It stops where the next answer does not fit what is left of the output:
+ * write out what is there, and feed the rest of the block from `taken` on. A granted call
+ * takes the whole block or writes something.
+ * Refusals: 20 of a state with fewer than LW_STREAM_BYTES (`first` says so many), then 21 of a
+ * state that lw_stream did not make: it says it holds more than it has room for. Of both nothing
+ * is taken, and the state is as it was. Then 20, where not even the first answer fits the output:
+ * `first` is the bytes that it needs, and the line is kept in the state, as far as it is `taken`.
+ * It does not come where the output has LW_STREAM_OUTPUT bytes. No two of block, state and output
+ * share memory. */
+LwFed lw_feed(const uint8_t *block, size_t length, uint8_t *state, size_t state_length,
+              uint8_t *out, size_t out_length);
+
+/* The end of the input: a last line without LF is answered, and the state holds nothing then.
+ * Refusals: as lw_feed; after the last 20 the state is as it was. */
+LwFed lw_finish(uint8_t *state, size_t state_length, uint8_t *out, size_t out_length);
 
 #ifdef __cplusplus
 }
