@@ -1,13 +1,17 @@
 //! The refusal: the question that was answered with no, and what it carries.
 
-use std::fmt;
-
 /// The question that was answered with no, and what goes with it.
 ///
 /// Rings, edges, vertices, holes and indices count from 0. Ring 0 is the outer one, ring k is hole k − 1, and edge k runs from
 /// vertex k to the next. `Few`, `Range` and `Room` can also come from an offset's result; `ring` is then its place among the
 /// finished rings.
+///
+/// [`Display`](std::fmt::Display) says it in words, those of the Python package: "edge 0 crosses edge 2". It does not know of what
+/// "number 3" or "ring 0" is one: where the drawing is at hand, [`in_drawing`](Self::in_drawing) says "the north of vertex 1", of a
+/// refused point [`in_point`](Self::in_point) "the north of the point", of a refused offset [`in_cage`](Self::in_cage) "piece 0 of
+/// the cage".
 #[derive(Debug, Clone, Copy, PartialEq)]
+#[non_exhaustive]
 pub enum Refusal {
     /// 1: the count of numbers is odd.
     Odd,
@@ -70,7 +74,7 @@ pub enum Refusal {
         /// The hole.
         hole: usize,
     },
-    /// 12: two holes that touch or overlap.
+    /// 12: two holes that are not apart.
     HolesTouch {
         /// One hole.
         first: usize,
@@ -111,19 +115,24 @@ pub enum Refusal {
         /// 9.
         needed: usize,
     },
-    /// 20: the lent output is too short.
+    /// 20: lent memory is too short.
     Short {
-        /// Numbers needed, two a vertex; of a job line, bytes.
+        /// Numbers needed, two a vertex; of job lines, bytes.
         needed: usize,
     },
-    /// 21: a shape handed in is none: counts or coordinates out of bounds.
+    /// 21: a shape or a stream's state handed in is none: counts or coordinates out of bounds.
     Shape,
     /// 22: an ill-formed job line.
     Job,
+    /// A question that this crate does not know, of a newer library.
+    Other {
+        /// Its number.
+        number: usize,
+    },
 }
 
 impl Refusal {
-    /// What a struct of the library says; `Ok` where it is granted.
+    /// What a struct of the library says; `Ok` where it is granted. So far the library answers 0 to 22, a newer one may go on.
     pub(crate) fn told(
         number: usize,
         ring: usize,
@@ -166,11 +175,11 @@ impl Refusal {
             20 => Self::Short { needed: first },
             21 => Self::Shape,
             22 => Self::Job,
-            other => unreachable!("the library answers 0 to 22, not {other}"),
+            number => Self::Other { number },
         })
     }
 
-    /// The question's number, 1 to 22.
+    /// The question's number, 1 to 22. [`Other`](Self::Other) has one of its own.
     pub fn number(&self) -> usize {
         match self {
             Self::Odd => 1,
@@ -195,62 +204,7 @@ impl Refusal {
             Self::Short { .. } => 20,
             Self::Shape => 21,
             Self::Job => 22,
-        }
-    }
-}
-
-impl fmt::Display for Refusal {
-    fn fmt(&self, f: &mut fmt::Formatter<'_>) -> fmt::Result {
-        match self {
-            Self::Odd => write!(f, "the count of numbers is odd: a vertex is two"),
-            Self::NotFinite { index } => write!(f, "number {index} is not finite"),
-            Self::Lengths => write!(
-                f,
-                "there is no ring, or the ring lengths do not add up to the points"
-            ),
-            Self::Few { ring, found } => {
-                write!(f, "ring {ring} has {found} vertices: three are needed")
-            }
-            Self::Range { ring, value } => write!(
-                f,
-                "a coordinate of ring {ring} is {value}: at most 1e9 either way is read"
-            ),
-            Self::Room { ring, needed, room } => write!(
-                f,
-                "ring {ring} has {needed} vertices: there is room for {room}"
-            ),
-            Self::Repeated { ring } => write!(f, "ring {ring} has the same vertex twice in a row"),
-            Self::Flat { ring } => write!(f, "ring {ring} is flat: it encloses nothing"),
-            Self::Crossed {
-                ring,
-                first,
-                second,
-            } => write!(f, "edge {first} crosses edge {second} in ring {ring}"),
-            Self::ManyHoles { holes } => write!(f, "{holes} holes are more than 8"),
-            Self::HoleOutside { hole } => {
-                write!(f, "hole {hole} does not lie inside the outer ring")
-            }
-            Self::HolesTouch { first, second } => write!(f, "hole {first} touches hole {second}"),
-            Self::Far => write!(f, "the distance is not a number up to 1e12"),
-            Self::Negative { distance } => write!(f, "the distance {distance} is below 0"),
-            Self::Slots { needed } => write!(f, "{needed} moving edges are more than 128"),
-            Self::Collapses { distance } => write!(f, "nothing is left at distance {distance}"),
-            Self::Splits { distance } => write!(
-                f,
-                "at distance {distance} the result is not one piece, clear of its source"
-            ),
-            Self::Unfinished { events, residual } => {
-                write!(f, "{events} events left {residual} of the distance to go")
-            }
-            Self::ManyPieces { needed } => {
-                write!(f, "{needed} holes would be left: at most 8 are kept")
-            }
-            Self::Short { needed } => write!(f, "the output is too short: {needed} are needed"),
-            Self::Shape => write!(
-                f,
-                "this is not a shape: counts or coordinates are out of bounds"
-            ),
-            Self::Job => write!(f, "this is not a job line"),
+            Self::Other { number } => *number,
         }
     }
 }

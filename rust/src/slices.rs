@@ -1,50 +1,39 @@
 //! The functions over numbers and lent output. Nothing is allocated.
 //!
 //! Numbers come as one flat list, east then north of each vertex. Where a call is refused the output is as it was; a granted one
-//! changes only the numbers that it writes. An output of 256 numbers is long enough for any outline, one of 768 for any region.
+//! changes only the numbers that it writes. An output of [`OUTLINE_NUMBERS`](crate::OUTLINE_NUMBERS) is long enough for any
+//! outline, one of [`REGION_NUMBERS`](crate::REGION_NUMBERS) for any region.
+//!
+//! Numbers *as drawn* are checked: [`check`], [`outline`], [`region`], [`region_inset`]. Any other function takes a shape as one of
+//! these, or an inset or outset, wrote it, asks 21 of it, and works on it as it is.
+//!
+//! Each ring of such a shape runs counter-clockwise, holes too. That is not asked: of a hole that runs clockwise, as in GeoJSON, an
+//! inset can be granted without it, and the cage then runs over the hole. [`outline`] and [`region`] turn such rings round.
+//!
+//! ```
+//! use lizardwire::{slices, Refusal, REGION_NUMBERS};
+//!
+//! let drawn = [0.0, 0.0, 9.0, 0.0, 9.0, 9.0, 0.0, 9.0, 4.0, 4.0, 5.0, 4.0, 5.0, 5.0, 4.0, 5.0];
+//! let (mut first, mut second) = ([0.0; REGION_NUMBERS], [0.0; REGION_NUMBERS]);
+//! let rings = slices::region_inset(&drawn, &[4, 4], 0.5, &mut first).0?;
+//! let cage = &first[..rings.numbers()];
+//! assert_eq!(slices::region_area(cage, rings.counts())?, 60.0);
+//! let again = slices::stored_region_inset(cage, rings.counts(), 0.5, &mut second).0?;
+//! assert_eq!(slices::region_area(&second[..again.numbers()], again.counts())?, 40.0);
+//! # Ok::<(), Refusal>(())
+//! ```
+
+mod answers;
+mod lines;
+mod outlines;
+mod regions;
+
+pub use answers::{Events, Nearest, Place, Point, Rings};
+pub use lines::{job_line, Fed, NotFed, Stream};
+pub use outlines::*;
+pub use regions::*;
 
 use crate::ffi;
-use crate::refusal::Refusal;
-
-/// Where a point lies.
-#[derive(Debug, Clone, Copy, PartialEq, Eq)]
-pub enum Place {
-    /// Inside the outline.
-    Inside,
-    /// On its boundary, exactly: it lies on an edge.
-    OnBoundary,
-    /// Outside it.
-    Outside,
-}
-
-/// The nearest point of a boundary.
-#[derive(Debug, Clone, Copy, PartialEq)]
-pub struct Nearest {
-    /// How far it is.
-    pub distance: f64,
-    /// Where it is, east and north.
-    pub point: (f64, f64),
-}
-
-/// The completed events of an offset.
-#[derive(Debug, Clone, Copy, PartialEq, Eq, Default)]
-pub struct Events {
-    /// Edges that shrank to nothing.
-    pub collapses: usize,
-    /// Splits of a ring into two.
-    pub divides: usize,
-    /// Splits that made two rings one.
-    pub joins: usize,
-}
-
-/// The rings of a region: how many, and the vertices of each, the outer one first.
-#[derive(Debug, Clone, Copy, PartialEq, Eq)]
-pub struct Rings {
-    /// The outer ring and the holes.
-    pub rings: usize,
-    /// Vertices of each; 0 beyond the last.
-    pub counts: [usize; 9],
-}
 
 /// The double nearest to the root of x² + y², ties to even.
 pub fn hypot(x: f64, y: f64) -> f64 {
@@ -52,154 +41,8 @@ pub fn hypot(x: f64, y: f64) -> f64 {
     unsafe { ffi::lw_hypot(x, y) }
 }
 
-fn counted(a: ffi::LwOutline) -> Result<usize, Refusal> {
-    Refusal::told(a.refusal, a.ring, a.first, a.second, a.value).map(|()| a.count)
-}
-
-/// How many vertices the outline of these numbers has: 1, 2, 4 to 9.
-pub fn check(numbers: &[f64]) -> Result<usize, Refusal> {
-    // SAFETY: the pointer leads to as many numbers as are said.
-    counted(unsafe { ffi::lw_check(numbers.as_ptr(), numbers.len()) })
-}
-
-/// Writes the outline of these numbers to `out`, counter-clockwise, and says how many vertices it has: 1, 2, 4 to 9, then 20.
-pub fn outline(numbers: &[f64], out: &mut [f64]) -> Result<usize, Refusal> {
-    // SAFETY: both pointers lead to as many numbers as are said, and a `&mut` is apart from a `&`.
-    counted(unsafe {
-        ffi::lw_outline(numbers.as_ptr(), numbers.len(), out.as_mut_ptr(), out.len())
-    })
-}
-
-/// Where a point lies in an outline handed in: 21, then 2 of the point.
-pub fn contains(outline: &[f64], point: (f64, f64)) -> Result<Place, Refusal> {
-    // SAFETY: the pointer leads to as many numbers as are said.
-    let a = unsafe { ffi::lw_contains(outline.as_ptr(), outline.len(), point.0, point.1) };
-    Refusal::told(a.refusal, 0, a.first, 0, 0.0)?;
-    Ok(match a.place {
-        0 => Place::Inside,
-        1 => Place::OnBoundary,
-        _ => Place::Outside,
-    })
-}
-
-/// The nearest point of the boundary of an outline handed in: 21, then 2 of the point.
-pub fn nearest(outline: &[f64], point: (f64, f64)) -> Result<Nearest, Refusal> {
-    // SAFETY: the pointer leads to as many numbers as are said.
-    let a = unsafe { ffi::lw_nearest(outline.as_ptr(), outline.len(), point.0, point.1) };
-    Refusal::told(a.refusal, 0, a.first, 0, 0.0)?;
-    Ok(Nearest {
-        distance: a.distance,
-        point: (a.east, a.north),
-    })
-}
-
-/// The area of an outline handed in: 21.
-pub fn area(outline: &[f64]) -> Result<f64, Refusal> {
-    // SAFETY: the pointer leads to as many numbers as are said.
-    let a = unsafe { ffi::lw_area(outline.as_ptr(), outline.len()) };
-    Refusal::told(a.refusal, 0, 0, 0, 0.0).map(|()| a.area)
-}
-
-fn offset_told(a: ffi::LwOffset) -> (Result<usize, Refusal>, Events) {
-    let told = Refusal::told(a.refusal, a.ring, a.first, a.second, a.value);
-    (
-        told.map(|()| a.count),
-        Events {
-            collapses: a.collapses,
-            divides: a.divides,
-            joins: a.joins,
-        },
-    )
-}
-
-/// Writes the inset of an outline handed in to `out`, and says how many vertices it has: 21, 13, 14, what the offset meets, then 20.
-/// The completed events stand beside it, refused or not. Above 0 its vertices lie at least as far from the
-/// outline's edges as [`Outline::inset`](crate::Outline::inset) says.
-pub fn inset(outline: &[f64], distance: f64, out: &mut [f64]) -> (Result<usize, Refusal>, Events) {
-    // SAFETY: both pointers lead to as many numbers as are said, and a `&mut` is apart from a `&`.
-    offset_told(unsafe {
-        ffi::lw_inset(
-            outline.as_ptr(),
-            outline.len(),
-            distance,
-            out.as_mut_ptr(),
-            out.len(),
-        )
-    })
-}
-
-/// Writes the outset, likewise, but of exact distances nothing is promised.
-pub fn outset(outline: &[f64], distance: f64, out: &mut [f64]) -> (Result<usize, Refusal>, Events) {
-    // SAFETY: as for `inset`.
-    offset_told(unsafe {
-        ffi::lw_outset(
-            outline.as_ptr(),
-            outline.len(),
-            distance,
-            out.as_mut_ptr(),
-            out.len(),
-        )
-    })
-}
-
-/// Writes the region of these numbers to `out`, ring after ring; `lengths` has the vertices of each ring: 1 to 12, then 20.
-pub fn region(numbers: &[f64], lengths: &[usize], out: &mut [f64]) -> Result<Rings, Refusal> {
-    // SAFETY: each pointer leads to as many numbers as are said, and a `&mut` is apart from a `&`.
-    let a = unsafe {
-        ffi::lw_region(
-            numbers.as_ptr(),
-            numbers.len(),
-            lengths.as_ptr(),
-            lengths.len(),
-            out.as_mut_ptr(),
-            out.len(),
-        )
-    };
-    let told = Refusal::told(a.refusal, a.ring, a.first, a.second, a.value);
-    told.map(|()| Rings {
-        rings: a.rings,
-        counts: a.counts,
-    })
-}
-
-/// Writes the inset of the region of these numbers to `out`: 1 to 14, what the offset meets, then 20. Above 0 its
-/// vertices lie at least as far from the edges of the rings handed in as [`Region::inset`](crate::Region::inset) says.
-pub fn region_inset(
-    numbers: &[f64],
-    lengths: &[usize],
-    distance: f64,
-    out: &mut [f64],
-) -> (Result<Rings, Refusal>, Events) {
-    let (n, l, o) = (numbers, lengths, out);
-    // SAFETY: each pointer leads to as many numbers as are said, and a `&mut` is apart from a `&`.
-    let a = unsafe {
-        ffi::lw_region_inset(
-            n.as_ptr(),
-            n.len(),
-            l.as_ptr(),
-            l.len(),
-            distance,
-            o.as_mut_ptr(),
-            o.len(),
-        )
-    };
-    let told = Refusal::told(a.refusal, a.ring, a.first, a.second, a.value);
-    (
-        told.map(|()| Rings {
-            rings: a.rings,
-            counts: a.counts,
-        }),
-        Events {
-            collapses: a.collapses,
-            divides: a.divides,
-            joins: a.joins,
-        },
-    )
-}
-
-/// Writes the answer to a job line to `out`, both without LF, and says how many bytes it has: 20. A refused job is an answer, too.
-pub fn job_line(line: &[u8], out: &mut [u8]) -> Result<usize, Refusal> {
-    // SAFETY: both pointers lead to as many bytes as are said, and a `&mut` is apart from a `&`.
-    let a = unsafe { ffi::lw_job_line(line.as_ptr(), line.len(), out.as_mut_ptr(), out.len()) };
-    Refusal::told(a.refusal, 0, a.count, 0, 0.0).map(|()| a.count)
+/// The version of the library that is linked, which is [`VERSION`](crate::VERSION) where both are of one build.
+pub fn version() -> usize {
+    // SAFETY: gives a number.
+    unsafe { ffi::lw_version() }
 }

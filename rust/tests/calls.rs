@@ -1,6 +1,6 @@
 //! Bad input and short output, and what the crate adds to the library.
 
-use lizardwire::{slices, Outline, Point, Refusal};
+use lizardwire::{hypot, slices, Events, Nearest, Outline, Place, Point, Refusal, Region};
 
 const S: [f64; 8] = [0.0, 0.0, 4.0, 0.0, 4.0, 4.0, 0.0, 4.0];
 
@@ -34,25 +34,36 @@ fn bad_numbers() {
 
 #[test]
 fn a_shape_handed_in_that_is_none() {
-    let mut out = [7.0; 256];
-    assert_eq!(
-        slices::contains(&S[..4], (f64::NAN, 0.0)),
-        Err(Refusal::Shape)
-    );
-    assert_eq!(slices::nearest(&S[..7], (0.0, 0.0)), Err(Refusal::Shape));
-    assert_eq!(
-        slices::area(&[0.0, 0.0, 2e9, 0.0, 0.0, 1.0]),
-        Err(Refusal::Shape)
-    );
-    assert_eq!(
-        slices::inset(&[], f64::NAN, &mut out).0,
-        Err(Refusal::Shape)
-    );
-    assert_eq!(
-        slices::outset(&[f64::NAN; 6], 1.0, &mut out).0,
-        Err(Refusal::Shape)
-    );
-    assert_eq!(out, [7.0; 256]);
+    let full = [0.5; 2 * 129];
+    let none: [&[f64]; 6] = [
+        &[],
+        &S[..4],
+        &S[..7],
+        &full,
+        &[0.0, 0.0, 2e9, 0.0, 0.0, 1.0],
+        &[f64::NAN; 6],
+    ];
+    for shape in none {
+        let mut out = [7.0; 256];
+        let refused = Refusal::Shape;
+        assert_eq!(slices::contains(shape, (f64::NAN, 0.0)), Err(refused));
+        assert_eq!(slices::nearest(shape, (f64::NAN, 0.0)), Err(refused));
+        assert_eq!(slices::area(shape), Err(refused));
+        assert_eq!(slices::perimeter(shape), Err(refused));
+        assert_eq!(slices::extent(shape), Err(refused));
+        assert_eq!(slices::clearance(shape, &S), Err(refused));
+        assert_eq!(slices::clearance(&S, shape), Err(refused));
+        assert_eq!(slices::vertex(shape, 0), Err(refused));
+        assert_eq!(slices::vertex(shape, usize::MAX), Err(refused));
+        assert_eq!(slices::edge(shape, 0), Err(refused));
+        assert_eq!(slices::without_holes(shape, &mut out), Err(refused));
+        let offsets = [slices::inset, slices::outset];
+        for offset in offsets {
+            assert_eq!(offset(shape, f64::NAN, &mut out).0, Err(refused));
+        }
+        assert_eq!(out, [7.0; 256]);
+        assert_eq!(Outline::stored(shape), Err(refused));
+    }
 }
 
 #[test]
@@ -84,14 +95,78 @@ fn short_output_is_left_as_it_was() {
 #[test]
 fn questions_of_an_outline() {
     let square = Outline::from_numbers(&S).unwrap();
-    assert_eq!(square.area(), 16.0);
+    assert_eq!((square.area(), square.perimeter()), (16.0, 16.0));
+    assert_eq!(square.extent(), 4.0);
     assert_eq!(square.numbers(), S);
     let nearest = square.nearest((7.0, 8.0)).unwrap();
     assert_eq!((nearest.distance, nearest.point), (5.0, (4.0, 4.0)));
-    assert_eq!(
-        square.nearest((7.0, f64::NAN)),
-        Err(Refusal::NotFinite { index: 1 })
-    );
+    assert_eq!(square.distance_to_boundary((7.0, 8.0)), Ok(5.0));
+    assert_eq!(square.closest_boundary_point((7.0, 8.0)), Ok((4.0, 4.0)));
+    let not_finite = Refusal::NotFinite { index: 1 };
+    let point = (7.0, f64::NAN);
+    assert_eq!(square.contains(point), Err(not_finite));
+    assert_eq!(square.nearest(point), Err(not_finite));
+    assert_eq!(square.distance_to_boundary(point), Err(not_finite));
+    assert_eq!(square.closest_boundary_point(point), Err(not_finite));
+    let far = Outline::new(&[(-9.0, 3.0), (2.0, 3.0), (2.0, 5.0)]).unwrap();
+    assert_eq!(far.extent(), 9.0);
+    let slope = Outline::new(&[(0.0, 0.0), (3.0, 0.0), (3.0, 4.0)]).unwrap();
+    assert_eq!(slope.perimeter(), 12.0);
+}
+
+#[test]
+fn vertices_and_edges() {
+    let square = Outline::from_numbers(&S).unwrap();
+    assert_eq!(square.vertex(1), Some((4.0, 0.0)));
+    assert_eq!(square.edge(1), Some(((4.0, 0.0), (4.0, 4.0))));
+    assert_eq!(square.edge(3), Some(((0.0, 4.0), (0.0, 0.0))));
+    for beyond in [4, 5, 128, usize::MAX / 2, usize::MAX / 2 + 1, usize::MAX] {
+        assert_eq!(square.vertex(beyond), None);
+        assert_eq!(square.edge(beyond), None);
+    }
+    let vertices: Vec<Point> = (0..4).filter_map(|k| square.vertex(k)).collect();
+    assert_eq!(vertices, square.vertices());
+    let edges = square.edges();
+    assert_eq!(edges.len(), 4);
+    for (k, edge) in edges.iter().enumerate() {
+        assert_eq!((edge.0, edge.1), (vertices[k], vertices[(k + 1) % 4]));
+    }
+    assert_eq!(Outline::new(&comb(128)).unwrap().edges().len(), 128);
+}
+
+#[test]
+fn clearance_of_one_outline_from_another() {
+    let square = Outline::from_numbers(&S).unwrap();
+    let inner = square.inset(1.0).unwrap();
+    assert_eq!(square.clearance(&inner), 1.0);
+    assert_eq!(inner.clearance(&square), hypot(1.0, 1.0));
+    assert_eq!(square.clearance(&square), 0.0);
+    let across = Outline::new(&[(2.0, 2.0), (9.0, 2.0), (9.0, 3.0)]).unwrap();
+    assert_eq!(square.clearance(&across), 0.0);
+    let apart = Outline::new(&[(7.0, 8.0), (9.0, 8.0), (9.0, 9.0)]).unwrap();
+    assert_eq!(square.clearance(&apart), 5.0);
+}
+
+#[test]
+fn an_inset_can_be_inset_again() {
+    let corner = [(0.0, 0.0), (4.0, 0.0), (4.0, 4.0), (1.0, 4.0), (0.0, 3.0)];
+    let cage = Outline::new(&corner).unwrap().inset(1.7071065).unwrap();
+    let again = cage.inset(0.1).unwrap();
+    assert_eq!(Outline::stored(cage.numbers()).as_ref(), Ok(&cage));
+    assert_eq!(Outline::stored(again.numbers()).unwrap(), again);
+    assert!(again.area() < cage.area() && cage.clearance(&again) > 0.0999);
+    let outside = again.outset(0.1).unwrap();
+    assert!((outside.area() - cage.area()).abs() < 1e-6);
+}
+
+#[test]
+fn a_stored_outline_is_taken_as_it_is() {
+    let clockwise = [0.0, 0.0, 0.0, 4.0, 4.0, 4.0, 4.0, 0.0];
+    let stored = Outline::stored(&clockwise).unwrap();
+    assert_eq!(stored.numbers(), clockwise);
+    assert_eq!((stored.area(), stored.perimeter()), (16.0, 16.0));
+    let bow = [0.0, 0.0, 4.0, 4.0, 4.0, 0.0, 0.0, 4.0];
+    assert_eq!(Outline::stored(&bow).unwrap().numbers(), bow);
 }
 
 #[test]
@@ -126,17 +201,33 @@ fn threads_share_nothing() {
 }
 
 #[test]
+fn what_is_kept_goes_from_thread_to_thread() {
+    fn goes<T: Send + Sync + Unpin + std::panic::UnwindSafe + 'static>() {}
+    goes::<Outline>();
+    goes::<Region>();
+    goes::<Refusal>();
+    goes::<Place>();
+    goes::<Nearest>();
+    goes::<Events>();
+    goes::<slices::Rings>();
+    goes::<slices::Stream>();
+    goes::<slices::Fed>();
+    goes::<slices::NotFed>();
+}
+
+#[test]
 fn refusals_have_their_numbers_and_words() {
     let square = Outline::from_numbers(&S).unwrap();
     let refusal = square.inset(2.0).unwrap_err();
+    let words = "nothing is left: the margin 2 is too wide";
     assert_eq!(
         (refusal.number(), refusal.to_string()),
-        (16, "nothing is left at distance 2".to_string())
+        (16, words.to_string())
     );
     let refusal = slices::check(&[0.0, 0.0, 4.0, 4.0, 4.0, 0.0, 0.0, 2.0]).unwrap_err();
     assert_eq!(
         (refusal.number(), refusal.to_string()),
-        (9, "edge 0 crosses edge 2 in ring 0".to_string())
+        (9, "edge 0 crosses edge 2".to_string())
     );
     let error: Box<dyn std::error::Error> = Box::new(refusal);
     assert!(error.downcast_ref::<Refusal>().is_some());
@@ -144,13 +235,21 @@ fn refusals_have_their_numbers_and_words() {
 
 #[test]
 fn job_lines() {
-    let job = b"inset,3ff0000000000000,1,4,0000000000000000,0000000000000000,4010000000000000,0000000000000000,4010000000000000,4010000000000000,0000000000000000,4010000000000000";
-    let ok = b"ok,1,4,3ff0000000000000,3ff0000000000000,4008000000000000,3ff0000000000000,4008000000000000,4008000000000000,3ff0000000000000,4008000000000000";
-    assert_eq!(lizardwire::answer_line(job), ok);
+    let job = concat!(
+        "inset,3ff0000000000000,1,4,",
+        "0000000000000000,0000000000000000,4010000000000000,0000000000000000,",
+        "4010000000000000,4010000000000000,0000000000000000,4010000000000000",
+    );
+    let ok = concat!(
+        "ok,1,4,",
+        "3ff0000000000000,3ff0000000000000,4008000000000000,3ff0000000000000,",
+        "4008000000000000,4008000000000000,3ff0000000000000,4008000000000000",
+    );
+    assert_eq!(lizardwire::answer_line(job.as_bytes()), ok.as_bytes());
     assert_eq!(lizardwire::answer_line(b""), b"no,22");
     let mut out = [b'#'; 20];
     assert_eq!(
-        slices::job_line(job, &mut out),
+        slices::job_line(job.as_bytes(), &mut out),
         Err(Refusal::Short { needed: ok.len() })
     );
     assert_eq!(out, [b'#'; 20]);

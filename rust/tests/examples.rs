@@ -84,20 +84,15 @@ fn e8_inset() {
 
 #[test]
 fn e9_nothing_is_left() {
-    let none = Events::default();
+    let mut events = Events::default();
     assert_eq!(
         square().inset_counted(2.0),
-        (Err(Refusal::Collapses { distance: 2.0 }), none)
+        (Err(Refusal::Collapses { distance: 2.0 }), events)
     );
+    events.collapses = 1;
     assert_eq!(
         square().inset_counted(3.0),
-        (
-            Err(Refusal::Collapses { distance: 3.0 }),
-            Events {
-                collapses: 1,
-                ..none
-            }
-        )
+        (Err(Refusal::Collapses { distance: 3.0 }), events)
     );
 }
 
@@ -118,7 +113,8 @@ fn e11_a_region() {
     let region = Region::new(&[outer, hole]).unwrap();
     assert_eq!(region.rings(), [outer.to_vec(), hole.to_vec()]);
     let cage = region.inset(1.0).unwrap();
-    assert_eq!(cage[1], [(3.0, 7.0), (3.0, 3.0), (7.0, 3.0), (7.0, 7.0)]);
+    let grown = [(3.0, 7.0), (3.0, 3.0), (7.0, 3.0), (7.0, 7.0)];
+    assert_eq!(cage.hole(0).unwrap().vertices(), grown);
     assert_eq!(region.inset(2.0), Err(Refusal::Splits { distance: 2.0 }));
     assert_eq!(
         Region::new(&[hole, outer]),

@@ -172,6 +172,10 @@ fn points_of_any_size() {
         }
         assert_eq!(slope.contains((far, far)), Ok(Place::Outside));
     }
+    // Farther than the largest double.
+    let corner = (f64::MAX, f64::MIN);
+    let nearest = square.nearest(corner).unwrap();
+    assert_eq!((nearest.distance, nearest.point), (0.0, corner));
     assert_eq!(square.contains((LEAST, 2.0)), Ok(Place::Inside));
     assert_eq!(square.contains((-LEAST, 2.0)), Ok(Place::Outside));
     assert_eq!(square.contains((LEAST, 0.0)), Ok(Place::OnBoundary));

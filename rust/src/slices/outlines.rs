@@ -1,0 +1,105 @@
+//! Outlines as they are drawn, and outlines handed in.
+
+use super::answers::{self, Events, Nearest, Place, Point};
+use crate::ffi;
+use crate::refusal::Refusal;
+
+/// How many vertices the outline of these numbers has: 1, 2, 4 to 9.
+pub fn check(numbers: &[f64]) -> Result<usize, Refusal> {
+    // SAFETY: the pointer leads to as many numbers as are said.
+    answers::vertices(unsafe { ffi::lw_check(numbers.as_ptr(), numbers.len()) })
+}
+
+/// Writes the outline of these numbers to `out`, counter-clockwise, and says how many vertices it has: 1, 2, 4 to 9, then 20.
+pub fn outline(numbers: &[f64], out: &mut [f64]) -> Result<usize, Refusal> {
+    // SAFETY: both pointers lead to as many numbers as are said, and a `&mut` is apart from a `&`.
+    answers::vertices(unsafe {
+        ffi::lw_outline(numbers.as_ptr(), numbers.len(), out.as_mut_ptr(), out.len())
+    })
+}
+
+/// Where a point lies in an outline handed in: 21, then 2 of the point.
+pub fn contains(outline: &[f64], point: Point) -> Result<Place, Refusal> {
+    // SAFETY: the pointer leads to as many numbers as are said.
+    answers::place(unsafe { ffi::lw_contains(outline.as_ptr(), outline.len(), point.0, point.1) })
+}
+
+/// The nearest point of the boundary of an outline handed in: 21, then 2 of the point.
+pub fn nearest(outline: &[f64], point: Point) -> Result<Nearest, Refusal> {
+    // SAFETY: the pointer leads to as many numbers as are said.
+    answers::nearest(unsafe { ffi::lw_nearest(outline.as_ptr(), outline.len(), point.0, point.1) })
+}
+
+/// The area of an outline handed in: 21.
+pub fn area(outline: &[f64]) -> Result<f64, Refusal> {
+    // SAFETY: the pointer leads to as many numbers as are said.
+    answers::area(unsafe { ffi::lw_area(outline.as_ptr(), outline.len()) })
+}
+
+/// The length of the boundary of an outline handed in: 21.
+pub fn perimeter(outline: &[f64]) -> Result<f64, Refusal> {
+    // SAFETY: the pointer leads to as many numbers as are said.
+    answers::length(unsafe { ffi::lw_perimeter(outline.as_ptr(), outline.len()) })
+}
+
+/// The largest absolute coordinate of an outline handed in: 21.
+pub fn extent(outline: &[f64]) -> Result<f64, Refusal> {
+    // SAFETY: the pointer leads to as many numbers as are said.
+    answers::length(unsafe { ffi::lw_extent(outline.as_ptr(), outline.len()) })
+}
+
+/// The clearance of the second outline from the first, both handed in: the least distance from a vertex of the second to an edge
+/// of the first, and 0 if an edge of one meets an edge of the other: 21 of the first, then of the second.
+pub fn clearance(first: &[f64], second: &[f64]) -> Result<f64, Refusal> {
+    // SAFETY: both pointers lead to as many numbers as are said.
+    answers::length(unsafe {
+        ffi::lw_clearance(first.as_ptr(), first.len(), second.as_ptr(), second.len())
+    })
+}
+
+/// Vertex k of an outline handed in, none where there are no more than k: 21.
+pub fn vertex(outline: &[f64], k: usize) -> Result<Option<Point>, Refusal> {
+    // SAFETY: the pointer leads to as many numbers as are said.
+    let a = unsafe { ffi::lw_vertex(outline.as_ptr(), outline.len(), k) };
+    Refusal::told(a.refusal, 0, 0, 0, 0.0)?;
+    Ok((k < outline.len() / 2).then_some((a.east, a.north)))
+}
+
+/// Edge k of an outline handed in, from vertex k to the next, the last one closing the ring; none where there are no more than k: 21.
+pub fn edge(outline: &[f64], k: usize) -> Result<Option<(Point, Point)>, Refusal> {
+    // SAFETY: the pointer leads to as many numbers as are said.
+    let a = unsafe { ffi::lw_edge(outline.as_ptr(), outline.len(), k) };
+    Refusal::told(a.refusal, 0, 0, 0, 0.0)?;
+    let ends = ((a.start_east, a.start_north), (a.end_east, a.end_north));
+    Ok((k < outline.len() / 2).then_some(ends))
+}
+
+/// Writes the inset of an outline handed in to `out`, and says how many vertices it has: 21, 13, 14, what the offset meets, then 20.
+/// The completed events stand beside it, refused or not. Above 0 its vertices lie at least as far from the
+/// outline's edges as [`Outline::inset`](crate::Outline::inset) says.
+pub fn inset(outline: &[f64], distance: f64, out: &mut [f64]) -> (Result<usize, Refusal>, Events) {
+    // SAFETY: both pointers lead to as many numbers as are said, and a `&mut` is apart from a `&`.
+    answers::offset(unsafe {
+        ffi::lw_inset(
+            outline.as_ptr(),
+            outline.len(),
+            distance,
+            out.as_mut_ptr(),
+            out.len(),
+        )
+    })
+}
+
+/// Writes the outset, likewise, but of exact distances nothing is promised.
+pub fn outset(outline: &[f64], distance: f64, out: &mut [f64]) -> (Result<usize, Refusal>, Events) {
+    // SAFETY: as for `inset`.
+    answers::offset(unsafe {
+        ffi::lw_outset(
+            outline.as_ptr(),
+            outline.len(),
+            distance,
+            out.as_mut_ptr(),
+            out.len(),
+        )
+    })
+}
