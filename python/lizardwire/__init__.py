@@ -14,17 +14,24 @@ number. Where a drawing has a narrow place, a cage can lack the part behind it.
         ...
     lizardwire.refusals.Refused: nothing is left: the margin 2 is too wide (refusal 16)
 
+A cage can be offset again and asked, as an outline or a region:
+
+    >>> lizardwire.inset(square, 1).inset(0.5).outline.area
+    1.0
+    >>> lizardwire.Region([square, [(1, 1), (2, 1), (2, 2), (1, 2)]]).contains((1.5, 1.5)) is lizardwire.Place.OUTSIDE
+    True
+
 The work is done by the shared library, whose functions are proved. This package is
 ordinary Python over it, from 3.9 on, and needs nothing else. ``python -m lizardwire
 --help`` says what it does from the command line.
 """
 from ._library import LibraryMissing
-from .jobs import Answer, Job, answer_line, read_jobs, write_jobs
+from .jobs import Answer, Job, Stream, answer_line, read_jobs, write_jobs
 from .refusals import Refused
-from .shapes import Cage, Events, Nearest, Outline, Place, Region, hypot, inset, outset
+from .shapes import Cage, Events, Nearest, Outline, Place, Region, hypot, inset, outset, version
 
 __all__ = [
     "Answer", "Cage", "Events", "Job", "LibraryMissing", "Nearest", "Outline", "Place", "Refused",
-    "Region", "answer_line", "hypot", "inset", "outset", "read_jobs", "write_jobs",
+    "Region", "Stream", "answer_line", "hypot", "inset", "outset", "read_jobs", "version", "write_jobs",
 ]
-__version__ = "0.1.0"
+__version__ = "0.2.0"

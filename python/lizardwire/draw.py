@@ -6,7 +6,7 @@ sizes, one for a phone and one for anything wider; which is shown is left to the
 screen, and room is kept for the larger. Light and dark follow the screen, too.
 """
 import math
-from typing import Callable, Iterable, List, NamedTuple, Optional, Sequence, Tuple
+from typing import Callable, Dict, Iterable, List, NamedTuple, Optional, Sequence, Tuple
 from xml.sax.saxutils import escape, quoteattr
 
 from .jobs import Answer
@@ -62,6 +62,14 @@ STYLE = """
 """
 
 
+class Crossed(NamedTuple):
+    """Two edges of a ring that cross."""
+
+    ring: int
+    first: int
+    second: int
+
+
 class Item(NamedTuple):
     """One outline to draw: ``up`` where the second coordinate grows upwards."""
 
@@ -80,6 +88,21 @@ class Item(NamedTuple):
         """The answer in words."""
         refused = self.answer.refused
         return f"no, {refused.number}: {refused.words}" if refused else self.answer.words()
+
+    def crossed(self) -> Optional[Crossed]:
+        """The edges of a 9, where they are known and there."""
+        values = self._values(9)
+        found = Crossed(values["ring"], values["first"], values["second"]) if values else None
+        return found if found and found.ring < len(self.rings) and self.rings[found.ring] else None
+
+    def failing_holes(self) -> List[int]:
+        """The holes of an 11 or a 12, where they are known."""
+        return list(self._values(11).values()) + list(self._values(12).values())
+
+    def _values(self, number: int) -> Dict[str, int]:
+        """The whole numbers that a refusal of this number carries."""
+        refused = self.answer.refused
+        return {name: int(value) for name, value in refused.values.items()} if refused and refused.number == number else {}
 
 
 # ---- words
@@ -223,7 +246,7 @@ class Page:
         self.phone = PHONE_TEXT * self.across / PHONE_SCREEN
         self.wide = WIDE_TEXT * self.across / WIDE_SCREEN if columns > 1 else 11.5
         self.shapes: List[str] = []
-        self.words = {"wide": [], "phone": []}  # type: dict
+        self.words: Dict[str, List[str]] = {"wide": [], "phone": []}
 
     def sizes(self) -> List[Tuple[str, float]]:
         """The two sizes of words."""
@@ -243,7 +266,7 @@ def drawing(page: Page, item: Item, left: float, top: float) -> None:
     """The outline, its cage, and what is marked."""
     rings, cage = finite(item.rings), finite(item.answer.rings)
     if not rings and not cage:
-        for kind, size in page.sizes():
+        for kind, _ in page.sizes():
             page.say(kind, left, top + page.high / 2, "nothing to draw", "soft")
         return
     place = placing(rings + cage, left, top, page.cell, page.high, item.up)
@@ -265,21 +288,19 @@ def vertices(page: Page, rings: List[Ring]) -> None:
 
 def marks(page: Page, item: Item, place: Placing, left: float, top: float) -> None:
     """The two edges of a 9 with their numbers; the holes of an 11 or a 12."""
-    number, values = item.answer.refused.number, item.answer.refused.values
-    if number == 9 and values and values["ring"] < len(item.rings):
-        crossing(page, item, place, (left, top, left + page.cell, top + page.high))
-    holes = [values["hole"]] if number == 11 and values else [values["first"], values["second"]] if number == 12 and values else []
-    marked = [item.rings[hole + 1] for hole in holes if hole + 1 < len(item.rings)]
+    crossed = item.crossed()
+    if crossed:
+        crossing(page, item, crossed, place, (left, top, left + page.cell, top + page.high))
+    marked = [item.rings[hole + 1] for hole in item.failing_holes() if hole + 1 < len(item.rings)]
     if marked:
         page.shapes.append(f'<path class="mark" d="{path(marked, place)}"/>')
 
 
-def crossing(page: Page, item: Item, place: Placing, box: Tuple[float, float, float, float]) -> None:
+def crossing(page: Page, item: Item, crossed: Crossed, place: Placing, box: Tuple[float, float, float, float]) -> None:
     """Two edges that cross: drawn thick, the place ringed, their numbers beside them."""
-    values = item.answer.refused.values
     rings = [[place(p) for p in ring] for ring in item.rings]
-    ring = rings[values["ring"]]
-    edges = [ends(ring, values["first"]), ends(ring, values["second"])]
+    ring = rings[crossed.ring]
+    edges = [ends(ring, crossed.first), ends(ring, crossed.second)]
     for a, b in edges:
         page.shapes.append('<path class="mark" d="M{:.2f} {:.2f}L{:.2f} {:.2f}"/>'.format(*a, *b))
     spot = meeting(*edges[0], *edges[1])
@@ -287,7 +308,7 @@ def crossing(page: Page, item: Item, place: Placing, box: Tuple[float, float, fl
     walls = [ends(r, k) for r in rings for k in range(len(r))]
     for kind, size in page.sizes():
         taken: List[Tuple[Point, str]] = []
-        for number, edge in zip((str(values["first"]), str(values["second"])), edges):
+        for number, edge in zip((str(crossed.first), str(crossed.second)), edges):
             at = beside(edge, number, size, walls, spot, taken, box)
             taken.append((at, number))
             page.say(kind, at[0], at[1] + 0.36 * size, number, "edge")
@@ -361,22 +382,22 @@ def in_place(items: Sequence[Item]) -> str:
         out.append(f'<path class="{kind}" d="{_exact(rings)}"><title>{escape(name)}</title></path>')
         if cage:
             out.append(f'<path class="cage" d="{_exact(cage)}"><title>{escape(name)} cage</title></path>')
-        values = item.answer.refused.values if item.answer.refused and item.answer.refused.number == 9 else None
-        if values and len(rings) == len(item.rings):
-            for key in ("first", "second"):
-                out.append(f'<path class="mark" d="{_exact([list(ends(rings[values["ring"]], values[key]))])[:-1]}"/>')
+        crossed = item.crossed()
+        if crossed and len(rings) == len(item.rings):
+            for edge in (crossed.first, crossed.second):
+                out.append(f'<path class="mark" d="{_exact([list(ends(rings[crossed.ring], edge))])[:-1]}"/>')
         out.append("</g>")
     left, top = min(east, default=0.0), min(north, default=0.0)
     wide, high = max(east, default=1.0) - left, max(north, default=1.0) - top
-    edge = 0.04 * max(wide, high, 1e-9)
-    box = f"{left - edge!r} {top - edge!r} {wide + 2 * edge!r} {high + 2 * edge!r}"
+    around = 0.04 * max(wide, high, 1e-9)
+    box = f"{left - around!r} {top - around!r} {wide + 2 * around!r} {high + 2 * around!r}"
     return "\n".join([f'<svg xmlns="http://www.w3.org/2000/svg" viewBox="{box}" width="100%">',
                       f"<title>{escape(_said(items))}</title>", f"<style>{IN_PLACE.format()}</style>", *out, "</svg>", ""])
 
 
 def _exact(rings: Iterable[Ring]) -> str:
     """Path data with every digit."""
-    return "".join("M" + "L".join(f"{p[0]!r} {p[1]!r}" for p in ring) + "Z" for ring in rings)
+    return "".join("M" + "L".join(f"{p[0] + 0.0!r} {p[1] + 0.0!r}" for p in ring) + "Z" for ring in rings)
 
 
 def _said(items: Sequence[Item]) -> str:

@@ -8,11 +8,12 @@ import ctypes
 import math
 import re
 import struct
-from typing import BinaryIO, Iterable, Iterator, List, Optional, Sequence, Union
+from typing import Any, BinaryIO, Iterable, Iterator, List, Optional, Sequence, Union
 
 from . import _library
-from .refusals import Refused, from_lists, short
-from .shapes import Events, Outline, Region, Ring, _numbers, _parted, _rings
+from .files import Output, Path
+from .refusals import Drawn, Refused, from_lists, short
+from .shapes import Cage, Events, Outline, Region, Ring, RingLike, _float, _floats, _lengths, _numbers, _parted, _rings
 
 _FLOAT = re.compile(rb"[0-9a-f]{16}\Z")
 _COUNT = re.compile(rb"(0|[1-9][0-9]{0,2})\Z")
@@ -22,13 +23,14 @@ def _hex(number: float) -> str:
     return struct.pack(">d", number).hex()
 
 
-def _float(field: bytes) -> float:
+def _read_float(field: bytes) -> float:
     if not _FLOAT.match(field):
         raise Refused(22)
-    return struct.unpack(">d", bytes.fromhex(field.decode()))[0]
+    number: float = struct.unpack(">d", bytes.fromhex(field.decode()))[0]
+    return number
 
 
-def _count(field: bytes) -> int:
+def _read_count(field: bytes) -> int:
     if not _COUNT.match(field):
         raise Refused(22)
     return int(field)
@@ -44,14 +46,14 @@ def _rings_of(numbers: Sequence[float], counts: Sequence[int]) -> List[Ring]:
 class Job:
     """A job: ``side`` is "inset" or "outset"; ``counts`` has the vertices of each ring, ``numbers`` the coordinates."""
 
-    def __init__(self, side: str, distance: float, counts: Sequence[int], numbers: Sequence[float]) -> None:
+    def __init__(self, side: str, distance: float, counts: Iterable[int], numbers: Iterable[float]) -> None:
         if side not in ("inset", "outset"):
             raise ValueError(f"a job is an inset or an outset, and not {side!r}")
-        self.side, self.distance = side, float(distance)
-        self.counts, self.numbers = list(counts), [float(number) for number in numbers]
+        self.side, self.distance = side, _float(distance)
+        self.counts, self.numbers = _lengths(counts), _floats(numbers)
 
     @classmethod
-    def of(cls, side: str, distance: float, rings: Iterable) -> "Job":
+    def of(cls, side: str, distance: float, rings: Union[RingLike, Iterable[RingLike]]) -> "Job":
         """The job of one ring, or of a list of rings."""
         lists = [_numbers(ring) for ring in _rings(rings)]
         return cls(side, distance, [len(n) // 2 for n in lists], [number for n in lists for number in n])
@@ -63,11 +65,11 @@ class Job:
         fields = text.split(b",")
         if len(text) > _library.LINE_BYTES or len(fields) < 3 or fields[0] not in (b"inset", b"outset"):
             raise Refused(22)
-        distance, rings = _float(fields[1]), _count(fields[2])
+        distance, rings = _read_float(fields[1]), _read_count(fields[2])
         if len(fields) < 3 + rings or (fields[0] == b"outset" and rings != 1):
             raise Refused(22)
-        counts = [_count(field) for field in fields[3:3 + rings]]
-        return cls(fields[0].decode(), distance, counts, [_float(field) for field in fields[3 + rings:]])
+        counts = [_read_count(field) for field in fields[3:3 + rings]]
+        return cls(fields[0].decode(), distance, counts, [_read_float(field) for field in fields[3 + rings:]])
 
     @property
     def rings(self) -> List[Ring]:
@@ -87,15 +89,19 @@ class Job:
     def answer(self) -> "Answer":
         """Its answer, by the library's functions over numbers."""
         try:
-            if len(self.counts) != 1:
-                cage = Region.from_numbers(self.numbers, self.counts).inset(self.distance)
-            else:
-                self._ask_lengths()
-                outline = Outline.from_numbers(self.numbers)
-                cage = outline.inset(self.distance) if self.side == "inset" else outline.outset(self.distance)
+            cage = self._cage()
         except Refused as refusal:
             return Answer([], refusal, Events(refusal.collapses, refusal.divides, refusal.joins))
         return Answer(cage.rings, None, cage.events)
+
+    def _cage(self) -> Cage:
+        if self.side == "outset" and len(self.counts) != 1:
+            raise Refused(22)
+        if len(self.counts) != 1:
+            return Region.from_numbers(self.numbers, self.counts).inset(self.distance)
+        self._ask_lengths()
+        outline = Outline.from_numbers(self.numbers)
+        return outline.inset(self.distance) if self.side == "inset" else outline.outset(self.distance)
 
     def _ask_lengths(self) -> None:
         """Questions 1, 2 and 3. Of an outline the library asks 1 and 2 alone, and 3 comes before its other questions."""
@@ -103,7 +109,7 @@ class Job:
             raise Refused(1)
         for index, number in enumerate(self.numbers):
             if not math.isfinite(number):
-                raise Refused(2, {"index": index})
+                raise Refused(2, {"index": index}, drawn=Drawn(self.numbers, self.counts))
         if 2 * sum(self.counts) != len(self.numbers):
             raise Refused(3)
 
@@ -126,25 +132,24 @@ class Answer:
 
         Raises ValueError where it is no answer line.
         """
-        text = line.decode("ascii", "replace") if isinstance(line, bytes) else line
-        parts = text.split(";")
-        fields = parts[0].split(",")
+        data = line.encode("utf-8", "surrogateescape") if isinstance(line, str) else line
+        first, *more = data.split(b";")
+        fields = first.split(b",")
         try:
-            told = {key: [v for v in value.split(",") if v] for key, value in (part.split("=", 1) for part in parts[1:])}
-            wholes = {key: [int(v) for v in told.get(key, [])] for key in ("ring", "wholes", "events")}
-            events = Events(*wholes["events"]) if len(wholes["events"]) == 3 else None
-            if fields[0] == "no" and len(fields) == 2:
-                floats = [_float(v.encode()) for v in told.get("floats", [])]
-                return cls([], from_lists(int(fields[1]), wholes["ring"], wholes["wholes"], floats), events)
-            if fields[0] == "ok":
-                count = int(fields[1])
-                counts = [int(field) for field in fields[2:2 + count]]
-                rings = _rings_of([_float(field.encode()) for field in fields[2 + count:]], counts)
-                if rings and len(rings) == count:
+            told = {key: [v for v in value.split(b",") if v] for key, value in (part.split(b"=", 1) for part in more)}
+            ring, wholes, counted = ([_read_count(v) for v in told.get(key, [])] for key in (b"ring", b"wholes", b"events"))
+            events = Events(*counted) if len(counted) == 3 else None
+            number = _read_count(fields[1])
+            if fields[0] == b"no" and len(fields) == 2 and number:
+                return cls([], from_lists(number, ring, wholes, [_read_float(v) for v in told.get(b"floats", [])]), events)
+            if fields[0] == b"ok":
+                counts = [_read_count(field) for field in fields[2:2 + number]]
+                rings = _rings_of([_read_float(field) for field in fields[2 + number:]], counts)
+                if rings and len(rings) == number:
                     return cls(rings, None, events)
         except (IndexError, ValueError):
             pass
-        raise ValueError(f"not an answer line: {text[:60]!r}")
+        raise ValueError(f"not an answer line: {data[:60].decode('ascii', 'replace')!r}")
 
     def line(self) -> str:
         """The answer line, without line feed. A zero has no sign."""
@@ -165,13 +170,58 @@ class Answer:
         return ", ".join(f"{n} {name[n > 1]}" for n, name in zip(self.events or (), names) if n)
 
 
+# ---- many lines
+
 def answer_line(line: bytes) -> bytes:
     """The answer line to a job line, both without line feed. A refused job is an answer, too."""
-    out = (ctypes.c_uint8 * _library.LINE_BYTES)()
-    answer = _library.call("lw_job_line", line, len(line), out, len(out))
+    out = _library.lent_bytes(_library.LINE_BYTES)
+    data = memoryview(line).tobytes()
+    answer = _library.call("lw_job_line", data, len(data), out, len(out))
     if answer.refusal:
         raise Refused(answer.refusal, {"needed": answer.count})
     return ctypes.string_at(out, answer.count)
+
+
+class Stream:
+    """Job lines in blocks that are cut anywhere, answered as their lines end, in memory that does not grow.
+
+        answers = Stream()
+        for block in blocks:
+            out.write(answers.feed(block))
+        out.write(answers.finish())
+
+    What comes out, joined, has one answer a line. After :meth:`finish` it takes the next input.
+    One stream is for one thread at a time.
+    """
+
+    ROOM = 1 << 18
+
+    def __init__(self) -> None:
+        self._state = _library.lent_bytes(_library.STREAM_BYTES)
+        self._out = _library.lent_bytes(max(self.ROOM, _library.STREAM_OUTPUT))
+        made = _library.call("lw_stream", self._state, len(self._state))
+        if made.refusal:
+            raise Refused(made.refusal, {"needed": made.count})
+
+    def feed(self, block: Union[bytes, bytearray, memoryview]) -> bytes:
+        """Takes the next bytes of the input; the answers of the lines that end in them, each with its line feed."""
+        data, answers, taken = memoryview(block).tobytes(), [], 0
+        start = ctypes.cast(ctypes.c_char_p(data), ctypes.c_void_p).value or 0
+        while taken < len(data):
+            fed = self._call("lw_feed", ctypes.c_char_p(start + taken), len(data) - taken)
+            answers.append(ctypes.string_at(self._out, fed.written))
+            taken += fed.taken
+        return b"".join(answers)
+
+    def finish(self) -> bytes:
+        """The end of the input: the answer of a last line without line feed."""
+        return ctypes.string_at(self._out, self._call("lw_finish").written)
+
+    def _call(self, name: str, *block: Any) -> Any:
+        fed = _library.call(name, *block, self._state, len(self._state), self._out, len(self._out))
+        if fed.refusal:
+            raise Refused(fed.refusal, {"needed": fed.first} if fed.refusal == 20 else None)
+        return fed
 
 
 def lines(stream: BinaryIO) -> Iterator[bytes]:
@@ -189,7 +239,7 @@ def lines(stream: BinaryIO) -> Iterator[bytes]:
         yield line[:-1] if line.endswith(b"\n") else line[:most]
 
 
-def read_jobs(path: str) -> List[Union[Job, Refused]]:
+def read_jobs(path: Path) -> List[Union[Job, Refused]]:
     """The jobs of a file, a line each; a line that is no job is its refusal."""
     jobs: List[Union[Job, Refused]] = []
     with open(path, "rb") as stream:
@@ -201,7 +251,8 @@ def read_jobs(path: str) -> List[Union[Job, Refused]]:
     return jobs
 
 
-def write_jobs(path: str, jobs: Iterable[Job]) -> None:
-    """Writes jobs to a file, a line each."""
-    with open(path, "w", encoding="ascii", newline="\n") as stream:
-        stream.writelines(job.line() + "\n" for job in jobs)
+def write_jobs(path: Path, jobs: Iterable[Job]) -> None:
+    """Writes jobs to a file, a line each. Where one has no line, nothing is written, and what was there before stays."""
+    with Output(path) as out:
+        for job in jobs:
+            out.write((job.line() + "\n").encode("ascii"))

@@ -15,11 +15,11 @@ class Progress:
         self.shown = False
         self.on = sys.stderr is not None and sys.stderr.isatty()
 
-    def step(self, done: int = 1) -> None:
-        """One more is done, and so much of the whole."""
-        self.count += 1
+    def step(self, done: int = 1, count: int = 1) -> None:
+        """So many more are done, and so much of the whole."""
+        self.count += count
         self.done += done
-        if self.on and self.count % 16 == 0 and time.monotonic() >= self.next:
+        if self.on and time.monotonic() >= self.next:
             self._show()
 
     def _show(self) -> None:
@@ -28,12 +28,25 @@ class Progress:
         words = f"{self.count:,} {self.what}, {self.count / max(now - self.start, 1e-9):,.0f} a second"
         if self.whole:
             words += f", {min(100, 100 * self.done // self.whole)} %"
-        sys.stderr.write("\r\x1b[K" + words)
-        sys.stderr.flush()
+        self._put("\r\x1b[K" + words)
         self.shown = True
 
     def end(self) -> None:
-        """Takes the line away."""
+        """Takes the line away, until the next one."""
         if self.shown:
-            sys.stderr.write("\r\x1b[K")
+            self._put("\r\x1b[K")
+            self.shown = False
+
+    def __enter__(self) -> "Progress":
+        return self
+
+    def __exit__(self, *raised: object) -> None:
+        self.end()
+
+    def _put(self, text: str) -> None:
+        """On a terminal that has gone away nothing is shown."""
+        try:
+            sys.stderr.write(text)
             sys.stderr.flush()
+        except OSError:
+            self.on = False

@@ -1,6 +1,6 @@
 """Why there is no cage: the refusal, in words."""
 import math
-from typing import Dict, List, Optional, Sequence, Tuple, Union
+from typing import Any, Dict, List, NamedTuple, Optional, Sequence, Tuple, Union
 
 Value = Union[int, float]
 
@@ -37,8 +37,8 @@ PLAIN = {
     8: "a ring is flat: it encloses nothing",
     9: "two edges cross",
     10: "there are more than 8 holes",
-    11: "a hole is not inside the outline",
-    12: "two holes touch",
+    11: "a ring is not inside the first one",
+    12: "two holes are not apart",
     13: "the distance is not a number up to 1e12",
     14: "the distance is below 0",
     15: "too many edges: 128 can move at once",
@@ -46,18 +46,68 @@ PLAIN = {
     17: "the cage falls apart or meets the outline",
     18: "the cage was not finished in 387 events",
     19: "more than 8 holes would be left",
-    20: "the output is too short",
-    21: "this is not a shape",
+    20: "the lent memory is too short",
+    21: "this is not a shape, or not a stream's state",
     22: "this is not a job line",
 }
 
+# What is said with the values, where these alone make the sentence.
+SENTENCES = {
+    4: "{ring} has {found} vertices: 3 are needed",
+    5: "{ring} has the coordinate {value}: 1e9 is the limit",
+    6: "{ring} has more than {room} vertices",
+    8: "{ring} is flat: it encloses nothing",
+    10: "there are {holes} holes: 8 is the limit",
+    14: "the distance {distance} is below 0",
+    15: "too many edges: {needed} would move, 128 can",
+    16: "nothing is left: the margin {distance} is too wide",
+    17: "at {distance} the cage falls apart or meets the outline",
+    18: "after {events} events {residual} of the distance is still to go",
+    19: "{needed} holes would be left: 8 is the limit",
+    20: "the lent memory is too short: {needed} are needed",
+}
+
+# What more can be known: how the second ring of an 11 or a 12 lies to the first; that the number of a 2 is a point's.
+MEETS, WITHIN, AROUND, APART, OF_POINT = "meets", "within", "around", "apart", "of a point"
+
+
+class Drawn(NamedTuple):
+    """What was given: its numbers, and the vertex count of each ring."""
+
+    numbers: Sequence[float]
+    lengths: Sequence[int]
+
+    def as_it_is(self, ring: int) -> List[Tuple[float, float]]:
+        """The vertices of a ring."""
+        start, count = 2 * sum(self.lengths[:ring]), self.lengths[ring]
+        numbers = self.numbers[start:start + 2 * count]
+        return list(zip(numbers[::2], numbers[1::2]))
+
+    def ring(self, ring: int) -> List[Tuple[float, float]]:
+        """The vertices of a ring, one closing repeat dropped."""
+        points = self.as_it_is(ring)
+        return points[:-1] if len(points) > 1 and points[0] == points[-1] else points
+
+    def repeat(self, ring: int) -> Optional[Tuple[int, int]]:
+        """The first two neighbours of a ring that are the same point."""
+        points = self.ring(ring)
+        neighbours = [(k, (k + 1) % len(points)) for k in range(len(points))]
+        return next(((k, after) for k, after in neighbours if points[k] == points[after]), None)
+
+    def found(self, number: int) -> Dict[str, Value]:
+        """What a 2 or a 7 carries, where an answer line has the number alone."""
+        if number == 2:
+            return next(({"index": k} for k, value in enumerate(self.numbers) if not math.isfinite(value)), {})
+        return next(({"ring": ring} for ring in range(len(self.lengths)) if number == 7 and self.repeat(ring)), {})
+
 
 def short(number: float) -> str:
-    """A number as a person writes it: 2 and not 2.0."""
-    return f"{number:.12g}"
+    """A number as a person writes it: 2 and not 2.0, 1e12 and not 1e+12, 0 without a sign."""
+    digits, _, exponent = f"{number + 0.0:.12g}".partition("e")
+    return f"{digits}e{int(exponent)}" if exponent else digits
 
 
-def _ring_name(ring: int, of_result: Optional[bool]) -> str:
+def _ring_name(ring: int, of_result: Optional[bool] = False) -> str:
     """A ring of what was given, or of the result; by its number where that is not known."""
     if of_result is None:
         return f"ring {ring}"
@@ -66,15 +116,58 @@ def _ring_name(ring: int, of_result: Optional[bool]) -> str:
     return "the outline" if ring == 0 else f"hole {ring - 1}"
 
 
-def _vertex_name(index: int, lengths: Optional[Sequence[int]]) -> str:
-    axis, vertex, where = ("east", "north")[index % 2], index // 2, ""
-    if lengths and len(lengths) > 1:
-        for ring, length in enumerate(lengths):
-            if vertex < length:
-                where = " of " + _ring_name(ring, False)
-                break
-            vertex -= length
-    return f"the {axis} of vertex {vertex}{where}"
+def _number_name(index: int, lengths: Sequence[int]) -> str:
+    """A number by its vertex, counted in its ring where there are several."""
+    axis, vertex = ("east", "north")[index % 2], index // 2
+    left = vertex
+    for ring, length in enumerate(lengths if len(lengths) > 1 else ()):
+        if left < length:
+            return f"the {axis} of vertex {left} of {_ring_name(ring)}"
+        left -= length
+    return f"the {axis} of vertex {vertex}"
+
+
+def _repeated(ring: int, drawn: Optional[Drawn]) -> str:
+    """The words of a 7: the first two neighbours of the ring that are the same point."""
+    name, found = _ring_name(ring), drawn.repeat(ring) if drawn and ring < len(drawn.lengths) else None
+    return f"vertices {found[0]} and {found[1]} of {name} are the same point" if found else f"{name} has the same vertex twice in a row"
+
+
+def _hole_outside(hole: int, known: Optional[str]) -> str:
+    """The words of an 11."""
+    return {
+        MEETS: f"ring {hole + 1} crosses or touches ring 0",
+        AROUND: f"ring {hole + 1} lies around ring 0: the outer ring comes first",
+        APART: f"ring {hole + 1} lies apart from ring 0: each is an outline of its own",
+    }.get(known or "", f"ring {hole + 1} is not inside ring 0")
+
+
+def _holes_touch(first: int, second: int, known: Optional[str]) -> str:
+    """The words of a 12."""
+    return {
+        MEETS: f"hole {first} crosses or touches hole {second}",
+        WITHIN: f"hole {second} lies inside hole {first}",
+        AROUND: f"hole {first} lies inside hole {second}",
+    }.get(known or "", f"hole {first} and hole {second} are not apart")
+
+
+def _no_shape(drawn: Drawn) -> str:
+    """Why 21 does not pass it."""
+    numbers, lengths = drawn
+    if len(numbers) % 2:
+        return "the count of numbers is odd"
+    if not lengths:
+        return "there is no ring"
+    if 2 * sum(lengths) != len(numbers):
+        return "the vertex counts do not add up to the points"
+    for ring, length in enumerate(lengths):
+        most = 32 if ring else 128
+        if not 3 <= length <= most:
+            return f"{_ring_name(ring)} has {length} vertices, and not 3 to {most}"
+    for index, number in enumerate(numbers):
+        if not abs(number) <= 1e9:
+            return f"{_number_name(index, lengths)} is not within 1e9"
+    return f"there are {len(lengths) - 1} holes: 8 is the limit"
 
 
 class Refused(ValueError):
@@ -82,7 +175,8 @@ class Refused(ValueError):
 
     ``number`` is the number of the question that was answered with no, 1 to 22.
     ``values`` has what goes with it by name: ``{"ring": 0, "first": 3, "second": 7}``
-    of two edges that cross. ``words`` is the reason without the number.
+    of two edges that cross. ``words`` is the reason without the number; they name
+    vertices where the refused drawing is at hand (``drawn``, and what else is ``known``).
     ``of_result`` says whether the ring of a 4, 5 or 6 is one of the result, None where
     that is not known. ``collapses``, ``divides`` and ``joins`` count what the offset had
     done before it stopped. Rings, holes, vertices and edges count from 0; edge k runs
@@ -90,80 +184,73 @@ class Refused(ValueError):
     """
 
     def __init__(self, number: int, values: Optional[Dict[str, Value]] = None, *, of_result: Optional[bool] = False,
-                 lengths: Optional[Sequence[int]] = None, events: Tuple[int, int, int] = (0, 0, 0)) -> None:
+                 drawn: Optional[Drawn] = None, known: Optional[str] = None, events: Tuple[int, int, int] = (0, 0, 0)) -> None:
         self.number = number
         self.values: Dict[str, Value] = dict(values or {})
         self.of_result = of_result
-        self.lengths = list(lengths) if lengths is not None else None
         self.collapses, self.divides, self.joins = events
-        self.words = self._words()
+        self.words = self._words(drawn, known)
         super().__init__(f"{self.words} (refusal {number})")
 
-    def __reduce__(self):  # an exception with keyword arguments is pickled by hand
-        return _again, (self.number, self.values, self.of_result, self.lengths, (self.collapses, self.divides, self.joins))
+    def of_drawing(self, numbers: Sequence[float], lengths: Sequence[int]) -> "Refused":
+        """The same refusal with words that name the vertices of this drawing, where a 2 or a 7 is about one."""
+        if self.number not in (2, 7):
+            return self
+        return Refused(self.number, self.values, of_result=self.of_result, drawn=Drawn(numbers, lengths),
+                       events=(self.collapses, self.divides, self.joins))
 
-    def _words(self) -> str:
+    def __reduce__(self) -> Tuple[Any, ...]:  # an exception with keyword arguments is pickled by hand
+        return _again, (self.number, self.words), self.__dict__
+
+    def _words(self, drawn: Optional[Drawn], known: Optional[str]) -> str:
         """The reason in words, with its values where they are known."""
-        number, v = self.number, self.values
+        number, v = self.number, self.values or (drawn.found(self.number) if drawn else {})
+        plain = PLAIN.get(number, "refused")
+        if number == 21 and drawn:
+            return f"this is not a shape: {_no_shape(drawn)}"
         if not v:
-            return PLAIN.get(number, "refused")
-        # 4, 5 and 6 are met in what was given and in the result, 7 to 9 in what was given alone.
-        name = _ring_name(int(v["ring"]), self.of_result if number in (4, 5, 6) else False) if "ring" in v else ""
+            return plain
+        if number == 2 and known == OF_POINT:
+            return f"the {('east', 'north')[int(v['index']) % 2]} of the point is not a finite number"
         if number == 2:
-            return _vertex_name(int(v["index"]), self.lengths) + " is not a finite number"
-        if number == 4:
-            return f"{name} has {v['found']} vertices: 3 are needed"
-        if number == 5:
-            return f"{name} has the coordinate {short(v['value'])}: 1e9 is the limit"
-        if number == 6:
-            return f"{name} has more than {v['room']} vertices"
+            return (_number_name(int(v["index"]), drawn.lengths) if drawn else f"number {v['index']}") + " is not a finite number"
         if number == 7:
-            return f"{name} has the same vertex twice in a row"
-        if number == 8:
-            return f"{name} is flat: it encloses nothing"
+            return _repeated(int(v["ring"]), drawn)
         if number == 9:
-            where = "" if v["ring"] == 0 else f"in {name}, "
-            return f"{where}edge {v['first']} crosses edge {v['second']}"
-        if number == 10:
-            return f"there are {v['holes']} holes: 8 is the limit"
+            return ("" if v["ring"] == 0 else f"in {_ring_name(int(v['ring']))}, ") + f"edge {v['first']} crosses edge {v['second']}"
         if number == 11:
-            return f"hole {v['hole']} is not inside the outline"
+            return _hole_outside(int(v["hole"]), known)
         if number == 12:
-            return f"hole {v['first']} touches hole {v['second']}"
-        if number == 14:
-            return f"the distance {short(v['distance'])} is below 0"
-        if number == 15:
-            return f"too many edges: {v['needed']} would move, 128 can"
-        if number == 16:
-            return f"nothing is left: the margin {short(v['distance'])} is too wide"
-        if number == 17:
-            return f"at {short(v['distance'])} the cage falls apart or meets the outline"
-        if number == 18:
-            return f"after {v['events']} events {short(v['residual'])} of the distance is still to go"
-        if number == 19:
-            return f"{v['needed']} holes would be left: 8 is the limit"
-        if number == 20:
-            return f"the output is too short: {v['needed']} numbers are needed"
-        return PLAIN.get(number, "refused")
+            return _holes_touch(int(v["first"]), int(v["second"]), known)
+        return self._sentence() if number in SENTENCES else plain
+
+    def _sentence(self) -> str:
+        """Its sentence, the values filled in; 4, 5 and 6 are met in what was given and in the result."""
+        told = {name: short(value) if isinstance(value, float) else str(value) for name, value in self.values.items()}
+        if "ring" in told:
+            told["ring"] = _ring_name(int(self.values["ring"]), self.of_result if self.number in (4, 5, 6) else False)
+        return SENTENCES[self.number].format(**told)
 
 
-def _again(number, values, of_result, lengths, events):
-    return Refused(number, values, of_result=of_result, lengths=lengths, events=events)
+def _again(number: int, words: str) -> Refused:
+    """A refusal out of a pickle, its values still to come."""
+    refusal = Refused(number)
+    refusal.args = (f"{words} (refusal {number})",)
+    return refusal
 
 
-def refused(answer: object, **more: object) -> Refused:
+def refused(answer: Any, **more: Any) -> Refused:
     """The refusal that a struct of the library tells."""
-    number = getattr(answer, "refusal")
-    values = {name: getattr(answer, field) for name, field in CARRIES.get(number, ()) if hasattr(answer, field)}
+    values = {name: getattr(answer, field) for name, field in CARRIES.get(answer.refusal, ()) if hasattr(answer, field)}
     if hasattr(answer, "collapses"):
-        more["events"] = (getattr(answer, "collapses"), getattr(answer, "divides"), getattr(answer, "joins"))
-    return Refused(number, values, **more)  # type: ignore[arg-type]
+        more["events"] = (answer.collapses, answer.divides, answer.joins)
+    return Refused(answer.refusal, values, **more)
 
 
-def from_lists(number: int, ring: List[int], wholes: List[int], floats: List[float], **more: object) -> Refused:
+def from_lists(number: int, ring: Sequence[Value], wholes: Sequence[Value], floats: Sequence[Value]) -> Refused:
     """The refusal of lists of what it carries; where they are not all there, it carries nothing."""
     have = {"ring": ring, "first": wholes, "second": wholes[1:], "value": floats}
     fields = CARRIES.get(number, ())
     values = {name: have[field][0] for name, field in fields if have[field]}
     complete = len(values) == len(fields) and all(math.isfinite(v) for v in values.values())
-    return Refused(number, values if complete else None, of_result=None, **more)  # type: ignore[arg-type]
+    return Refused(number, values if complete else None, of_result=None)

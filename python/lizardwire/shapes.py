@@ -1,28 +1,35 @@
 """Outlines, regions and their cages."""
+import operator
 from enum import Enum
-from numbers import Real
-from typing import Any, Iterable, Iterator, List, NamedTuple, Sequence, Tuple, Union
+from typing import Any, Iterable, List, NamedTuple, NoReturn, Optional, Sequence, Tuple, Union, overload
 
 from . import _library
-from ._library import call, lent, numbers_in, points, wholes_in
-from .refusals import Refused, refused
+from ._library import call, lent, numbers_in, points, whole, wholes_in
+from .refusals import APART, AROUND, MEETS, OF_POINT, WITHIN, Drawn, Refused, refused
 
 Point = Tuple[float, float]
+Edge = Tuple[Point, Point]
 Ring = List[Point]
 PointLike = Sequence[float]
 RingLike = Iterable[PointLike]
 
 
 class Place(Enum):
-    """Where a point lies."""
+    """Where a point lies. It is not true or false: ``if`` needs ``place is Place.INSIDE``."""
 
-    INSIDE = 0
+    OUTSIDE = 0
     ON_BOUNDARY = 1
-    OUTSIDE = 2
+    INSIDE = 2
+
+    def __bool__(self) -> NoReturn:
+        raise TypeError("a place is not true or false: write `is Place.INSIDE`, or `is not Place.OUTSIDE` to have the boundary, too")
 
 
 class Nearest(NamedTuple):
-    """The nearest point of a boundary, and how far it is."""
+    """The nearest point of a boundary, and how far it is.
+
+    Where that is past the largest double, the distance reads 0 and the point is the one asked.
+    """
 
     distance: float
     point: Point
@@ -36,12 +43,114 @@ class Events(NamedTuple):
     joins: int
 
 
-class Cage:
-    """The rings of an inset or outset, the outer one first. It can be read like a list of rings."""
+# ---- what is handed in, and what is asked
 
-    def __init__(self, rings: List[Ring], events: Events) -> None:
-        self.rings = rings
-        self.events = events
+def _float(value: Any) -> float:
+    """A coordinate or a distance. Digits in a text are none."""
+    if isinstance(value, (str, bytes, bytearray)):
+        raise TypeError(f"a number is wanted, and not {value!r}")
+    return float(value)
+
+
+def _floats(values: Iterable[Any]) -> List[float]:
+    return [_float(value) for value in values]
+
+
+def _numbers(ring: RingLike) -> List[float]:
+    """The flat list of a ring's points."""
+    numbers: List[float] = []
+    for point in ring:
+        pair = tuple(point)
+        if len(pair) != 2:
+            raise TypeError(f"a vertex is two numbers, east and north, and not {pair!r}")
+        numbers += (_float(pair[0]), _float(pair[1]))
+    return numbers
+
+
+def _rings(rings: Iterable[Any]) -> List[Any]:
+    """The rings of a list of rings, or of one ring."""
+    listed = [list(part) for part in rings]
+    return [listed] if listed and listed[0] and not hasattr(type(listed[0][0]), "__iter__") else listed
+
+
+def _lengths(lengths: Iterable[Any]) -> List[int]:
+    """Vertex counts of rings."""
+    return [whole(length, "a vertex count") for length in lengths]
+
+
+def _parted(numbers: Sequence[float], lengths: Iterable[int]) -> List[Ring]:
+    """The rings of a flat list."""
+    rings, at = [], 0
+    for length in lengths:
+        rings.append(points(numbers[2 * at:2 * (at + length)]))
+        at += length
+    return rings
+
+
+def _index(k: Any, count: int, what: str) -> int:
+    """A place in a list of so many, below 0 counted from its end."""
+    if isinstance(k, bool) or not hasattr(type(k), "__index__"):
+        raise TypeError(f"the {what}'s number is a whole number, and not {k!r}")
+    at = operator.index(k)
+    if not -count <= at < count:
+        raise IndexError(f"there is no {what} {at}: there are {count}")
+    return at % count
+
+
+def _granted(answer: Any, **more: Any) -> Any:
+    """The answer, where it is granted."""
+    if answer.refusal:
+        raise refused(answer, **more)
+    return answer
+
+
+def _place(answer: Any) -> Place:
+    return Place(_granted(answer, known=OF_POINT).place)
+
+
+def _nearest(answer: Any) -> Nearest:
+    found = _granted(answer, known=OF_POINT)
+    return Nearest(found.distance, (found.east + 0.0, found.north + 0.0))
+
+
+def _events(answer: Any) -> Events:
+    return Events(answer.collapses, answer.divides, answer.joins)
+
+
+def version() -> int:
+    """The version of the library: it goes up with every function that is added."""
+    return int(call("lw_version"))
+
+
+def hypot(x: float, y: float) -> float:
+    """The double nearest to the root of x² + y², ties to even."""
+    return float(call("lw_hypot", _float(x), _float(y)))
+
+
+# ---- shapes
+
+class Cage(Sequence[Ring]):
+    """The rings of an inset or outset, the outer one first. It can be read like a list of rings.
+
+    It can be offset again, as it is: nothing of it is asked but 21. Two are equal where their
+    rings are; ``events``, which tell how it was found, are not compared.
+    """
+
+    def __init__(self, rings: Iterable[RingLike], events: Events) -> None:
+        lists = [_numbers(ring) for ring in rings]
+        self._numbers = tuple(number for numbers in lists for number in numbers)
+        self._counts = tuple(len(numbers) // 2 for numbers in lists)
+        self._events = events
+
+    @property
+    def rings(self) -> List[Ring]:
+        """Its rings."""
+        return _parted(self._numbers, self._counts)
+
+    @property
+    def events(self) -> Events:
+        """What the offset did on its way."""
+        return self._events
 
     @property
     def outer(self) -> Ring:
@@ -53,39 +162,48 @@ class Cage:
         """The other rings."""
         return self.rings[1:]
 
+    @property
+    def outline(self) -> "Outline":
+        """The cage as an outline, as it is. Raises ValueError where it has holes: it is a :attr:`region` then."""
+        if len(self) != 1:
+            raise ValueError(f"a cage of {len(self)} rings is no outline: it is a region")
+        return Outline.stored(self._numbers)
+
+    @property
+    def region(self) -> "Region":
+        """The cage as a region, as it is."""
+        return Region.stored(self._numbers, self._counts)
+
+    def inset(self, distance: float) -> "Cage":
+        """The cage inside this one. Refused as :meth:`Outline.inset` and :meth:`Region.inset`, and with 21."""
+        return self.outline.inset(distance) if len(self) == 1 else self.region.inset(distance)
+
+    def outset(self, distance: float) -> "Cage":
+        """The cage outside this one, which has one ring."""
+        return self.outline.outset(distance)
+
     def __len__(self) -> int:
-        return len(self.rings)
+        return len(self._counts)
 
-    def __iter__(self) -> Iterator[Ring]:
-        return iter(self.rings)
+    @overload
+    def __getitem__(self, at: int) -> Ring: ...
 
-    def __getitem__(self, at: int) -> Ring:
+    @overload
+    def __getitem__(self, at: slice) -> List[Ring]: ...
+
+    def __getitem__(self, at: Union[int, slice]) -> Union[Ring, List[Ring]]:
         return self.rings[at]
 
+    def __eq__(self, other: object) -> bool:
+        if not isinstance(other, Cage):
+            return NotImplemented
+        return (self._numbers, self._counts) == (other._numbers, other._counts)
+
+    def __hash__(self) -> int:
+        return hash((self._numbers, self._counts))
+
     def __repr__(self) -> str:
-        return "<Cage of " + " + ".join(str(len(ring)) for ring in self.rings) + " vertices>"
-
-
-def _numbers(ring: RingLike) -> List[float]:
-    """The flat list of a ring's points."""
-    numbers: List[float] = []
-    for point in ring:
-        pair = tuple(point)
-        if len(pair) != 2:
-            raise TypeError(f"a vertex is two numbers, east and north, and not {pair!r}")
-        numbers += (float(pair[0]), float(pair[1]))
-    return numbers
-
-
-def _rings(rings: Iterable[Any]) -> List[Any]:
-    """The rings of a list of rings, or of one ring."""
-    listed = [list(part) for part in rings]
-    return [listed] if listed and listed[0] and isinstance(listed[0][0], Real) else listed
-
-
-def hypot(x: float, y: float) -> float:
-    """The double nearest to the root of x² + y², ties to even."""
-    return call("lw_hypot", float(x), float(y))
+        return "<Cage of " + " + ".join(map(str, self._counts)) + " vertices>"
 
 
 class Outline:
@@ -99,51 +217,101 @@ class Outline:
     """
 
     def __init__(self, ring: RingLike) -> None:
-        self._take(_numbers(ring))
+        self._check(_numbers(ring))
 
     @classmethod
-    def from_numbers(cls, numbers: Sequence[float]) -> "Outline":
+    def from_numbers(cls, numbers: Iterable[float]) -> "Outline":
         """The outline of a flat list, east then north of each vertex. Refused as above, and with 1."""
         outline = cls.__new__(cls)
-        outline._take([float(number) for number in numbers])
+        outline._check(_floats(numbers))
         return outline
 
-    def _take(self, numbers: List[float]) -> None:
+    @classmethod
+    def stored(cls, numbers: Iterable[float]) -> "Outline":
+        """An outline as it is, by its :attr:`numbers`: 21 is asked, and nothing else.
+
+        It runs counter-clockwise. That is not asked: one that runs clockwise can be refused an offset that it gets as
+        ``Outline(..)``, which turns it round.
+        """
+        outline = cls.__new__(cls)
+        outline._keep(_floats(numbers))
+        return outline
+
+    def _check(self, numbers: List[float]) -> None:
         out = lent(_library.OUTLINE_NUMBERS)
-        answer = call("lw_outline", *numbers_in(numbers), out, len(out))
-        if answer.refusal:
-            raise refused(answer)
+        answer = _granted(call("lw_outline", *numbers_in(numbers), out, len(out)), drawn=Drawn(numbers, [len(numbers) // 2]))
         self._numbers = numbers_in(out[:2 * answer.count])
+
+    def _keep(self, numbers: List[float]) -> None:
+        self._numbers = numbers_in(numbers)
+        _granted(call("lw_area", *self._numbers), drawn=Drawn(numbers, [len(numbers) // 2]))
+
+    @property
+    def numbers(self) -> List[float]:
+        """Its flat list, east then north of each vertex."""
+        return [number + 0.0 for number in self._numbers[0]]
 
     @property
     def vertices(self) -> Ring:
-        """Its vertices, counter-clockwise."""
+        """Its vertices, counter-clockwise, or as they were stored."""
         return points(self._numbers[0])
+
+    @property
+    def edges(self) -> List[Edge]:
+        """Its edges: edge k runs from vertex k to the next, the last one to vertex 0."""
+        vertices = self.vertices
+        return list(zip(vertices, vertices[1:] + vertices[:1]))
+
+    def vertex(self, k: int) -> Point:
+        """Vertex k, below 0 counted from the end. Raises IndexError where there is none."""
+        found = _granted(call("lw_vertex", *self._numbers, _index(k, len(self), "vertex")))
+        return found.east + 0.0, found.north + 0.0
+
+    def edge(self, k: int) -> Edge:
+        """Edge k, likewise."""
+        found = _granted(call("lw_edge", *self._numbers, _index(k, len(self), "edge")))
+        return (found.start_east + 0.0, found.start_north + 0.0), (found.end_east + 0.0, found.end_north + 0.0)
 
     @property
     def area(self) -> float:
         """The area enclosed."""
-        answer = call("lw_area", *self._numbers)
-        if answer.refusal:
-            raise refused(answer)
-        return answer.area
+        return float(_granted(call("lw_area", *self._numbers)).area)
+
+    @property
+    def perimeter(self) -> float:
+        """The length of the boundary."""
+        return float(_granted(call("lw_perimeter", *self._numbers)).length)
+
+    @property
+    def extent(self) -> float:
+        """The largest absolute coordinate."""
+        return float(_granted(call("lw_extent", *self._numbers)).length)
+
+    def clearance(self, other: "Outline") -> float:
+        """The least distance from a vertex of the other outline to an edge of this one; 0 if an edge of one meets an edge of the other."""
+        return float(_granted(call("lw_clearance", *self._numbers, *_outline(other)._numbers)).length)
 
     def contains(self, point: PointLike) -> Place:
         """Where a point lies: on the boundary if and only if it lies on an edge, with nothing rounded.
 
         Refused with 2 where the point is not finite.
         """
-        answer = call("lw_contains", *self._numbers, *_numbers([point]))
-        if answer.refusal:
-            raise refused(answer)
-        return Place(answer.place)
+        return _place(call("lw_contains", *self._numbers, *_numbers([point])))
 
     def nearest(self, point: PointLike) -> Nearest:
-        """The nearest point of the boundary. Refused with 2 where the point is not finite."""
-        answer = call("lw_nearest", *self._numbers, *_numbers([point]))
-        if answer.refusal:
-            raise refused(answer)
-        return Nearest(answer.distance, (answer.east, answer.north))
+        """The nearest point of the boundary, and how far it is. Refused with 2 where the point is not finite.
+
+        Where that is past the largest double, the distance reads 0 and the point is the one asked.
+        """
+        return _nearest(call("lw_nearest", *self._numbers, *_numbers([point])))
+
+    def distance_to_boundary(self, point: PointLike) -> float:
+        """How far the boundary is: the distance of :meth:`nearest`."""
+        return self.nearest(point).distance
+
+    def closest_boundary_point(self, point: PointLike) -> Point:
+        """The nearest point of the boundary."""
+        return self.nearest(point).point
 
     def inset(self, distance: float) -> Cage:
         """The ring inside at that distance. Refused with 13 to 18, or with 4 to 6 of the result.
@@ -162,22 +330,32 @@ class Outline:
 
     def _offset(self, name: str, distance: float) -> Cage:
         out = lent(_library.OUTLINE_NUMBERS)
-        answer = call(name, *self._numbers, float(distance), out, len(out))
-        if answer.refusal:
-            raise refused(answer, of_result=True)
-        return Cage([points(out[:2 * answer.count])], Events(answer.collapses, answer.divides, answer.joins))
+        answer = _granted(call(name, *self._numbers, _float(distance), out, len(out)), of_result=True)
+        return Cage([points(out[:2 * answer.count])], _events(answer))
 
     def __eq__(self, other: object) -> bool:
-        return isinstance(other, Outline) and self.vertices == other.vertices
+        if not isinstance(other, Outline):
+            return NotImplemented
+        return self.numbers == other.numbers
 
     def __hash__(self) -> int:
-        return hash(tuple(self.vertices))
+        return hash(tuple(self.numbers))
+
+    def __reduce__(self) -> Tuple[Any, ...]:  # lent memory is not pickled: its numbers are
+        return type(self).stored, (self.numbers,)
 
     def __len__(self) -> int:
         return self._numbers[1] // 2
 
     def __repr__(self) -> str:
         return f"<Outline of {len(self)} vertices>"
+
+
+def _outline(outline: object) -> Outline:
+    """An outline, and not a ring of points, which nobody has checked."""
+    if not isinstance(outline, Outline):
+        raise TypeError(f"an Outline is wanted, and not {type(outline).__name__}")
+    return outline
 
 
 class Region:
@@ -189,29 +367,124 @@ class Region:
 
     def __init__(self, rings: Union[RingLike, Iterable[RingLike]]) -> None:
         lists = [_numbers(ring) for ring in _rings(rings)]
-        self._take([number for numbers in lists for number in numbers], [len(numbers) // 2 for numbers in lists])
+        self._make("lw_region", [number for numbers in lists for number in numbers], [len(numbers) // 2 for numbers in lists])
 
     @classmethod
-    def from_numbers(cls, numbers: Sequence[float], lengths: Sequence[int]) -> "Region":
+    def from_numbers(cls, numbers: Iterable[float], lengths: Iterable[int]) -> "Region":
         """The region of a flat list, with the vertex count of each ring. Refused as above, and with 1."""
         region = cls.__new__(cls)
-        region._take([float(number) for number in numbers], list(lengths))
+        region._make("lw_region", _floats(numbers), _lengths(lengths))
         return region
 
-    def _take(self, numbers: List[float], lengths: List[int]) -> None:
+    @classmethod
+    def of_outlines(cls, outer: Outline, holes: Iterable[Outline] = ()) -> "Region":
+        """The region of given outlines, as they are. Refused with 10 to 12, and with 21 of a hole of more than 32 vertices.
+
+        Each runs counter-clockwise, holes too. That is not asked: of a hole that runs clockwise, as :meth:`Outline.stored`
+        keeps it, an inset can be granted without it. ``Region(..)`` turns such rings round.
+        """
+        outlines = [_outline(outline) for outline in (outer, *holes)]
+        region = cls.__new__(cls)
+        region._make("lw_given_region", [number for outline in outlines for number in outline.numbers], list(map(len, outlines)))
+        return region
+
+    @classmethod
+    def without_holes(cls, outline: Outline) -> "Region":
+        """The region of one outline, as it is."""
+        out = lent(_library.OUTLINE_NUMBERS)
+        answer = _granted(call("lw_without_holes", *_outline(outline)._numbers, out, len(out)))
+        region = cls.__new__(cls)
+        region._hold(out, answer.counts[:answer.rings])
+        return region
+
+    @classmethod
+    def stored(cls, numbers: Iterable[float], lengths: Iterable[int]) -> "Region":
+        """A region as it is, by its :attr:`numbers` and :attr:`lengths`: 21 is asked, and nothing else.
+
+        Each ring runs counter-clockwise, holes too. That is not asked: of a hole that runs clockwise, as other programs
+        write it, an inset can be granted without it. ``Region(..)`` and :meth:`from_numbers` turn such rings round.
+        """
+        region, given = cls.__new__(cls), Drawn(_floats(numbers), _lengths(lengths))
+        answer = call("lw_stored_region", *numbers_in(given.numbers), *wholes_in(given.lengths))
+        region._hold(given.numbers, _granted(answer, drawn=given).counts[:answer.rings])
+        return region
+
+    def _make(self, name: str, numbers: List[float], lengths: List[int]) -> None:
         out = lent(_library.REGION_NUMBERS)
-        answer = call("lw_region", *numbers_in(numbers), *wholes_in(lengths), out, len(out))
+        answer = call(name, *numbers_in(numbers), *wholes_in(lengths), out, len(out))
         if answer.refusal:
-            raise refused(answer, lengths=lengths)
-        # An inset checks what it is given once more: it is given the same numbers.
-        self._given = numbers, lengths
-        self._lengths = list(answer.counts[:answer.rings])
-        self._numbers = out[:2 * sum(self._lengths)]
+            given = Drawn(numbers, lengths)
+            raise refused(answer, drawn=given, known=_known(answer, given, as_it_is=name == "lw_given_region"))
+        self._hold(out, answer.counts[:answer.rings])
+
+    def _hold(self, numbers: Sequence[float], lengths: List[int]) -> None:
+        """Keeps rings for the library: numbers with their count, vertex counts with theirs."""
+        self._rings = *numbers_in(numbers[:2 * sum(lengths)]), *wholes_in(lengths)
+
+    @property
+    def numbers(self) -> List[float]:
+        """The flat list of its rings, one after the other."""
+        return [number + 0.0 for number in self._rings[0]]
+
+    @property
+    def lengths(self) -> List[int]:
+        """The vertex count of each ring."""
+        return list(self._rings[2])
 
     @property
     def rings(self) -> List[Ring]:
-        """The outer ring and the holes, each counter-clockwise."""
-        return _parted(self._numbers, self._lengths)
+        """The outer ring and the holes, each counter-clockwise, or as it was stored."""
+        return _parted(self._rings[0], self.lengths)
+
+    @property
+    def outer(self) -> Outline:
+        """The outer ring as an outline."""
+        out = lent(_library.OUTLINE_NUMBERS)
+        answer = _granted(call("lw_region_outer", *self._rings, out, len(out)))
+        return Outline.stored(out[:2 * answer.count])
+
+    def hole(self, k: int) -> Outline:
+        """Hole k as an outline, below 0 counted from the end. Raises IndexError where there is none."""
+        out = lent(_library.OUTLINE_NUMBERS)
+        answer = _granted(call("lw_region_hole", *self._rings, _index(k, self._rings[3] - 1, "hole"), out, len(out)))
+        return Outline.stored(out[:2 * answer.count])
+
+    @property
+    def holes(self) -> List[Outline]:
+        """Its holes as outlines."""
+        return [self.hole(k) for k in range(self._rings[3] - 1)]
+
+    @property
+    def area(self) -> float:
+        """The area inside the outer ring and outside every hole."""
+        return float(_granted(call("lw_region_area", *self._rings)).area)
+
+    @property
+    def perimeter(self) -> float:
+        """The length of the outer ring and of every hole."""
+        return float(_granted(call("lw_region_perimeter", *self._rings)).length)
+
+    def contains(self, point: PointLike) -> Place:
+        """Where a point lies; one in a hole is outside, one on an edge of a hole is on the boundary.
+
+        But where that edge is right beside the outer ring, it can be told outside. Refused with 2 where the point is not finite.
+        """
+        return _place(call("lw_region_contains", *self._rings, *_numbers([point])))
+
+    def nearest(self, point: PointLike) -> Nearest:
+        """The nearest point of the boundary, that of the holes too, and how far it is; past the largest double as of an outline.
+
+        Refused with 2 where the point is not finite.
+        """
+        return _nearest(call("lw_region_nearest", *self._rings, *_numbers([point])))
+
+    def distance_to_boundary(self, point: PointLike) -> float:
+        """How far the boundary is, that of the holes too: the distance of :meth:`nearest`."""
+        return self.nearest(point).distance
+
+    def closest_boundary_point(self, point: PointLike) -> Point:
+        """The nearest point of the boundary, that of the holes too."""
+        return self.nearest(point).point
 
     def inset(self, distance: float) -> Cage:
         """The region inside: the outer ring moves in, the holes grow. Refused with 13 to 19, or with 4 to 6 of the result.
@@ -220,29 +493,39 @@ class Region:
         ``largest`` being the largest absolute coordinate of them all.
         """
         out = lent(_library.REGION_NUMBERS)
-        given = *numbers_in(self._given[0]), *wholes_in(self._given[1])
-        answer = call("lw_region_inset", *given, float(distance), out, len(out))
-        if answer.refusal:
-            raise refused(answer, of_result=True)
-        return Cage(_parted(out, answer.counts[:answer.rings]), Events(answer.collapses, answer.divides, answer.joins))
+        answer = _granted(call("lw_stored_region_inset", *self._rings, _float(distance), out, len(out)), of_result=True)
+        return Cage(_parted(out, answer.counts[:answer.rings]), _events(answer))
 
     def __eq__(self, other: object) -> bool:
-        return isinstance(other, Region) and self.rings == other.rings
+        if not isinstance(other, Region):
+            return NotImplemented
+        return (self.numbers, self.lengths) == (other.numbers, other.lengths)
 
     def __hash__(self) -> int:
-        return hash((tuple(self._numbers), tuple(self._lengths)))
+        return hash((tuple(self.numbers), tuple(self.lengths)))
+
+    def __reduce__(self) -> Tuple[Any, ...]:  # as of an outline
+        return type(self).stored, (self.numbers, self.lengths)
 
     def __repr__(self) -> str:
-        return "<Region of " + " + ".join(map(str, self._lengths)) + " vertices>"
+        return "<Region of " + " + ".join(map(str, self.lengths)) + " vertices>"
 
 
-def _parted(numbers: Sequence[float], lengths: Iterable[int]) -> List[Ring]:
-    rings, at = [], 0
-    for length in lengths:
-        rings.append(points(numbers[2 * at:2 * (at + length)]))
-        at += length
-    return rings
+def _known(answer: Any, given: Drawn, as_it_is: bool = False) -> Optional[str]:
+    """How the second ring of an 11 or a 12 lies to the first. All rings have passed 21 by then, a closing repeat dropped or as they are."""
+    if answer.refusal not in (11, 12):
+        return None
+    first, second = (0, answer.first + 1) if answer.refusal == 11 else (answer.first + 1, answer.second + 1)
+    part = given.as_it_is if as_it_is else given.ring
+    one, two = (Outline.stored(_numbers(part(ring))) for ring in (first, second))
+    if one.clearance(two) == 0:
+        return MEETS
+    if one.contains(two.vertex(0)) is Place.INSIDE:
+        return WITHIN
+    return AROUND if two.contains(one.vertex(0)) is Place.INSIDE else APART
 
+
+# ---- cages
 
 def inset(rings: Union[RingLike, Iterable[RingLike]], distance: float) -> Cage:
     """The cage inside.
@@ -261,5 +544,5 @@ def outset(rings: Union[RingLike, Iterable[RingLike]], distance: float) -> Cage:
     if not listed:
         raise Refused(3)
     if len(listed) > 1:
-        raise ValueError("an outset is of one ring: a region with holes has none")
+        raise ValueError(f"an outset is of one ring, and not of {len(listed)}")
     return Outline(listed[0]).outset(distance)

@@ -16,7 +16,7 @@ Coordinates are taken as they are drawn, the second one growing downwards.
 import math
 import re
 import xml.etree.ElementTree as ElementTree
-from typing import Dict, List, NamedTuple, Sequence, Tuple
+from typing import Dict, List, NamedTuple, Sequence, Tuple, Union
 
 from .shapes import Point, Ring
 
@@ -69,13 +69,16 @@ def read(data: bytes) -> Tuple[List[Shape], List[Unread]]:
     """The shapes of an SVG file, and what was not read. Raises ValueError where it is no SVG."""
     try:
         root = ElementTree.fromstring(data)
-    except ElementTree.ParseError as error:
+    except (ElementTree.ParseError, LookupError, ValueError) as error:  # the last two of its encoding
         raise ValueError(f"this is not an SVG file: {error}") from None
     if root.tag not in (_SPACE + "svg", "svg"):
         raise ValueError(f"this is not an SVG file: it starts with <{_tag(root)}>")
     shapes: List[Shape] = []
     unread: List[Unread] = []
-    _walk(root, SAME, {}, shapes, unread)
+    try:
+        _walk(root, SAME, {}, shapes, unread)
+    except RecursionError:
+        raise ValueError("this SVG file cannot be read: its groups are nested too deeply") from None
     return shapes, unread
 
 
@@ -190,8 +193,9 @@ def _path(element: ElementTree.Element) -> List[Ring]:
     return rings
 
 
-def _path_tokens(text: str) -> list:
-    tokens, at = [], 0
+def _path_tokens(text: str) -> List[Union[str, float]]:
+    tokens: List[Union[str, float]] = []
+    at = 0
     text = text.strip()
     while at < len(text):
         found = _TOKEN.match(text, at)

@@ -3,6 +3,7 @@ import io
 import itertools
 import os
 import pty
+import re
 import shutil
 import subprocess
 import sys
@@ -11,7 +12,8 @@ import unittest
 import xml.etree.ElementTree as ElementTree
 from unittest import mock
 
-from lizardwire import Job, progress
+from lizardwire import Job, __version__, progress, version
+from lizardwire.__main__ import Watch, size_of
 from tests.support import ANSWER, JOB, PYTHON, TOP, Folder, run
 
 DRAWING = """<svg xmlns="http://www.w3.org/2000/svg">
@@ -36,6 +38,14 @@ class Draw(Folder):
         self.assertEqual([Job.read(line).rings[0][1] for line in lines], [(9, 0), (4, 4)])
         status, printed, _ = run("draw", jobs, "--words", "--names", self.put("names", "tail\nbow\n"))
         self.assertEqual((status, printed.decode().split()[0]), (0, "tail"))
+
+    def test_an_outline_without_a_job_line(self):
+        """It is told and has a status; the others are written."""
+        long = '<path id="long" d="M0 0' + "h1v1" * 600 + 'V900"/>'
+        jobs = os.path.join(self.folder, "out.jobs")
+        status, _, said = run("draw", self.put("a.svg", f'<svg>{long}<rect width="4" height="4"/></svg>'), "--inset", "1", "--jobs", jobs)
+        self.assertEqual((status, said), (1, "lizardwire: long has no job line: 1202 vertices are too many for a job line\n"))
+        self.assertEqual(self.get("out.jobs"), JOB + "\n")
 
     def test_the_lizard(self):
         status, out, said = run("draw", os.path.join(TOP, "docs", "lizard.svg"), "--inset", "4")
@@ -62,16 +72,40 @@ class Draw(Folder):
             self.assertEqual(out, stream.read())
 
     def test_most(self):
-        status, out, said = run("draw", self.put("a.jobs", (JOB + "\n") * 5), "--words", "--most", "2")
+        """What the user cuts is cut; a picture that is cut by itself is not all that was asked for."""
+        jobs, many = self.put("a.jobs", (JOB + "\n") * 5), self.put("many.jobs", (JOB + "\n") * 61)
+        status, out, said = run("draw", jobs, "--words", "--most", "2")
         self.assertEqual((status, len(out.splitlines())), (0, 2))
-        self.assertEqual(said, "lizardwire: the first 2 of 5 outlines are drawn; --most changes that\n")
+        self.assertEqual(said, "lizardwire: the first 2 of 5 outlines are told; --most changes that\n")
+        for words, status, drawn, cut in (([], 1, 60, True), (["--most", "60"], 0, 60, True), (["--most", "61"], 0, 61, False),
+                                          (["--in-place"], 0, 61, False), (["--in-place", "--most", "3"], 0, 3, True)):
+            done, out, said = run("draw", many, *words)
+            found = len(re.findall(r'class="cage" d="M[^h]*Z"', out.decode()))
+            self.assertEqual((done, found, "outlines are drawn; --most changes that" in said), (status, drawn, cut), words)
+        done, out, said = run("draw", many, "--words")
+        self.assertEqual((done, len(out.splitlines()), said), (0, 61, ""))
+
+    def test_counts_of_the_command_line(self):
+        jobs = self.put("a.jobs", JOB)
+        for words in (["--most", "0"], ["--most", "-1"], ["--columns", "0"], ["--columns", "two"], ["--columns", "9" * 400]):
+            status, out, said = run("draw", jobs, *words)
+            self.assertEqual((status, out), (2, b""))
+            self.assertIn(f"argument {words[0]}: invalid count value", said)
+
+    def test_an_empty_name(self):
+        """As of a variable of the shell that is not set."""
+        drawing = self.put("a.svg", DRAWING)
+        for words in (["jobs", ""], ["jobs", drawing, "-o", ""], ["draw", ""], *(["draw", drawing, "--inset", "1", option, ""]
+                                                                                 for option in ("-o", "--jobs", "--names", "--answers"))):
+            self.assertEqual(run(*words), (2, b"", "lizardwire: the name of a file is empty: nothing is done\n"), words)
 
     def test_nothing_is_done(self):
         drawing, jobs = self.put("a.svg", DRAWING), self.put("a.jobs", JOB)
         for words, why in (
                 (["draw", drawing], "a drawing has no distance"),
                 (["draw", jobs, "--inset", "1"], "job lines have their own"),
-                (["draw", os.path.join(self.folder, "none")], "No such file"),
+                (["draw", os.path.join(self.folder, "none")], "no file"),
+                (["draw", self.folder], "Is a directory"),
                 (["draw", self.put("empty", "")], "there is no job"),
                 (["draw", self.put("b.svg", "<svg"), "--inset", "1"], "this is not an SVG file"),
                 (["draw", self.put("c.svg", '<svg xmlns="http://www.w3.org/2000/svg"/>'), "--inset", "1"], "no outline that can be read"),
@@ -94,10 +128,74 @@ class Jobs(Folder):
         self.assertEqual(run("jobs", path, "-o", os.path.join(self.folder, "out"))[1], b"")
         self.assertEqual(self.get("out").encode(), wanted)
         self.assertEqual(run("jobs", given=b""), (0, b"", ""))
+        self.assertEqual(run("jobs", path, "-o", "-"), (0, wanted, ""))
+
+    def test_lines_of_two_files_never_join(self):
+        half, rest = self.put("a", JOB[:50]), self.put("b", JOB[50:])
+        self.assertEqual(run("jobs", half, rest), (0, b"no,22\nno,22\n", ""))
+        whole = self.put("c", JOB)
+        self.assertEqual(run("jobs", whole, self.put("empty", ""), whole), (0, (ANSWER + "\n").encode() * 2, ""))
+
+    def test_pipes(self):
+        fifo = os.path.join(self.folder, "pipe")
+        os.mkfifo(fifo)
+        path, line = self.put("a.jobs", JOB), (ANSWER + "\n").encode()
+        shell = (f"cat '{path}' > '{fifo}' & '{sys.executable}' -m lizardwire jobs '{fifo}' '{path}' /dev/stdin < '{path}'")
+        done = subprocess.run(shell, shell=True, capture_output=True, env={**os.environ, "PYTHONPATH": PYTHON})
+        self.assertEqual((done.returncode, done.stdout, done.stderr), (0, line * 3, b""))
+        command = f"'{sys.executable}' -m lizardwire"
+        shell = f"{command} jobs <(cat '{path}') <(echo no job) && {command} draw <(cat '{path}') --words"
+        done = subprocess.run(["bash", "-c", shell], capture_output=True, env={**os.environ, "PYTHONPATH": PYTHON})
+        self.assertEqual((done.returncode, done.stderr), (0, b""))
+        self.assertEqual(done.stdout, line + b"no,22\njob 1        inset 1        cage of 4 vertices\n")
+
+    def test_answers_do_not_wait(self):
+        """A line that is complete is answered before the next one comes."""
+        words = [sys.executable, "-m", "lizardwire", "jobs"]
+        environment = {**os.environ, "PYTHONPATH": PYTHON}
+        with subprocess.Popen(words, stdin=subprocess.PIPE, stdout=subprocess.PIPE, env=environment) as child:
+            for _ in range(3):
+                child.stdin.write((JOB + "\n" + JOB[:9]).encode())
+                child.stdin.flush()
+                self.assertEqual(child.stdout.readline(), (ANSWER + "\n").encode())
+                child.stdin.write(JOB[9:].encode() + b"\n")
+                child.stdin.flush()
+                self.assertEqual(child.stdout.readline(), (ANSWER + "\n").encode())
+            child.stdin.close()
+            self.assertEqual((child.stdout.read(), child.wait()), (b"", 0))
+
+    def test_files_of_other_systems(self):
+        """The answers stay what they are; a hint, once a file, says why."""
+        hint = "lizardwire: {}: lines end in CR LF, and a job line ends in LF alone: take the CRs away with  tr -d '\\r'\n"
+        path = self.put("a.jobs", (JOB + "\r\n") * 300)
+        self.assertEqual(run("jobs", path, path), (0, b"no,22\n" * 600, hint.format(path) * 2))
+        self.assertEqual(run("jobs", given=(JOB + "\r\n").encode()), (0, b"no,22\n", hint.format("standard input")))
+        status, out, said = run("draw", path, "--words")
+        self.assertEqual((status, len(out.splitlines()), said), (0, 300, hint.format(path)))
+        mark = self.put("b.jobs", b"\xef\xbb\xbf" + JOB.encode())
+        for words in (["jobs"], ["draw", "--words"]):
+            status, out, said = run(*words, mark)
+            self.assertEqual((status, said.count("\n")), (0, 1))
+            self.assertIn("a byte-order mark stands before the first line", said)
+
+    def test_hints_of_blocks_that_are_cut_anywhere(self):
+        data = b"\xef\xbb\xbf" + (JOB + "\r\n").encode()
+        for cut in range(len(data)):
+            watch = Watch("a.jobs")
+            hints = [hint for block in (data[:cut], data[cut:]) for hint in watch.hints(block)]
+            self.assertEqual([" CR " in hint for hint in hints], [False, True], cut)
+        watch = Watch(None)
+        self.assertEqual([watch.hints(bytes([byte])) for byte in b"\r \n\n\xef\xbb\xbf\r"], [[]] * 8)
+
+    def test_how_much_there_is_to_read(self):
+        path = self.put("a.jobs", JOB)
+        self.assertEqual((size_of([path, path]), size_of([path, None]), size_of(["/dev/null"])), (2 * len(JOB), None, None))
 
     def test_no_such_file(self):
         status, out, said = run("jobs", self.put("a.jobs", JOB), "/no/such/file")
         self.assertEqual((status, out, said), (2, b"", "lizardwire: no file /no/such/file\n"))
+        status, out, said = run("jobs", self.put("a.jobs", JOB), self.folder)
+        self.assertEqual((status, out, said), (2, b"", f"lizardwire: {self.folder}: Is a directory\n"))
 
     def test_a_reader_that_leaves(self):
         path = self.put("a.jobs", (JOB + "\n") * 3000)
@@ -137,15 +235,15 @@ class Spread(Folder):
 class Progress(Folder):
     """It shows on a terminal, and nowhere else."""
 
-    def on_terminal(self):
-        """What standard error gets where it is a terminal, from a run that takes a while; answers go to a file."""
+    def on_terminal(self, shared=False, end="\n"):
+        """What the terminal gets where standard error is one, from a run that takes a while; answers go to a file, or there, too."""
         inner, outer = pty.openpty()
         with open(os.path.join(self.folder, "out"), "wb") as out:
-            child = subprocess.Popen([sys.executable, "-m", "lizardwire", "jobs"], stdin=subprocess.PIPE, stdout=out, stderr=outer,
-                                     env={**os.environ, "PYTHONPATH": PYTHON})
+            child = subprocess.Popen([sys.executable, "-m", "lizardwire", "jobs"], stdin=subprocess.PIPE, stdout=outer if shared else out,
+                                     stderr=outer, env={**os.environ, "PYTHONPATH": PYTHON})
         os.close(outer)
         for _ in range(3):
-            child.stdin.write((JOB + "\n").encode() * 32)
+            child.stdin.write((JOB + end).encode() * 32)
             child.stdin.flush()
             time.sleep(0.8)
         child.stdin.close()
@@ -167,6 +265,13 @@ class Progress(Folder):
         self.assertRegex(said, r"\d+ jobs, [\d,]+ a second")
         self.assertTrue(said.endswith("\r\x1b[K"))
         self.assertEqual(self.get("out"), (ANSWER + "\n") * 96)
+
+    def test_answers_on_the_terminal(self):
+        self.assertEqual(self.on_terminal(shared=True), (ANSWER + "\r\n") * 96)
+
+    def test_a_hint_has_a_line_of_its_own(self):
+        said = self.on_terminal(end="\n" * 7 + "\r\n")
+        self.assertRegex(said, r"(^|\x1b\[K)lizardwire: standard input: lines end in CR LF.*\r\n")
 
     def counted(self, terminal):
         """What 64 steps that take their time say."""
@@ -191,16 +296,40 @@ class Offsets(unittest.TestCase):
         self.assertEqual(run("outset", "1", "0,0 4,0 4,4 0,4"), (0, b"-1,5 -1,-1 5,-1 5,5\n", ""))
         self.assertEqual(run("inset", "2", "0,0 4,0 4,4 0,4"),
                          (1, b"", "lizardwire: no, 16: nothing is left: the margin 2 is too wide\n"))
-        self.assertEqual(run("inset", "1", "0,0 4")[0], 2)
-        self.assertEqual(run("inset", "1", "0,0 4,x 2,2")[0], 2)
+        self.assertEqual(run("inset", str(1 / 3), "0,0 1e9,0 0,1e9")[1].split()[0], f"{1 / 3},{1 / 3}".encode())
+        for distance, words in (("-1e-3", "14: the distance -0.001 is below 0"), ("-inf", "13: the distance is not a number up to 1e12")):
+            self.assertEqual(run("inset", distance, "0,0 4,0 4,4"), (1, b"", f"lizardwire: no, {words}\n"))
+        for ring in ("0,0 4", "0,0 4,x 2,2", "0,0 4,0,1 4,4", "0,0 4,0 4,", "0, 0 4, 0 4, 4"):
+            self.assertEqual(run("inset", "1", ring), (2, b"", f'lizardwire: a ring is written "0,0 4,0 4,4 0,4", and not {ring!r}\n'))
 
     def test_help(self):
         for words in ([], ["draw"], ["jobs"], ["inset"], ["outset"]):
             status, out, said = run(*words, "--help")
             self.assertEqual((status, said), (0, ""))
             self.assertIn(b"usage: python -m lizardwire", out)
-        self.assertEqual(run()[0], 2)
-        self.assertEqual(run("--version")[0], 0)
+        self.assertEqual(run("--version"), (0, f"lizardwire {__version__}, library {version()}\n".encode(), ""))
+        status, out, _ = run("--version", LIZARDWIRE_LIBRARY="/no/such/file")
+        self.assertEqual(status, 0)
+        self.assertIn(b"no library: the Lizardwire library was not found", out)
+
+    def test_words_that_are_not_understood(self):
+        """One line and a status; nothing where there is no standard error."""
+        for words in ([], ["none"], ["draw"], ["draw", "F", "--none"], ["draw", "F", "--inset", "x"], ["draw", "F", "--inset"],
+                      ["draw", "F", "--inset", "1", "--outset", "1"], ["jobs", "-x"], ["jobs", "-o"], ["inset"], ["inset", "1"],
+                      ["inset", "x", "0,0"], ["outset", "1", "0,0 4,0 4,4", "1,1"]):
+            status, out, said = run(*words)
+            self.assertEqual((status, out), (2, b""), words)
+            self.assertRegex(said, r"^lizardwire: .*\(python -m lizardwire.* --help says more\)\n$")
+        for none in ("2>&-", "2> /dev/full"):
+            done = subprocess.run(f"'{sys.executable}' -m lizardwire none {none}", shell=True, capture_output=True,
+                                  env={**os.environ, "PYTHONPATH": PYTHON, "PYTHONUNBUFFERED": ""})
+            self.assertEqual((done.returncode, done.stdout, done.stderr), (2, b"", b""), none)
+
+    def test_one_version(self):
+        """The package, the crate and the command have one number."""
+        for path, line in ((("rust", "Cargo.toml"), r'^version = "(.*)"$'), (("cli", "lizardwire.c"), r'^#define VERSION "(.*)"$')):
+            with open(os.path.join(TOP, *path), encoding="utf-8") as stream:
+                self.assertEqual(re.findall(line, stream.read(), re.M), [__version__], path)
 
     def test_without_the_library(self):
         status, _, said = run("inset", "1", "0,0 4,0 4,4", LIZARDWIRE_LIBRARY="/no/such/file")

@@ -44,6 +44,11 @@ class Lines(unittest.TestCase):
             with self.assertRaises(ValueError):
                 job.line()
 
+    def test_an_outset_is_of_one_ring(self):
+        for rings in (PANE, []):
+            self.assertEqual(Job.of("outset", 1, rings).answer().line(), "no,22")
+        self.assertEqual(Job.of("inset", 1, []).answer().line(), "no,3")
+
     def test_long_lines_are_passed_over(self):
         long = b"x" * 40000
         for size, kept in ((16384, 16384), (16385, 16385), (16386, 16385), (40000, 16385)):
@@ -63,8 +68,10 @@ class Answers(unittest.TestCase):
                          ({"ring": 0, "first": 1, "second": 5}, "edge 1 crosses edge 5", "2 divisions"))
 
     def test_no_answer(self):
-        for line in ("", "ok", "ok,1,4", "ok,2,4" + ANSWER[6:], "no", "no,x", JOB, "no,9;ring"):
-            with self.assertRaises(ValueError):
+        for line in ("", "ok", "ok,1,4", "ok,2,4" + ANSWER[6:], "no", "no,x", JOB, "no,9;ring", "no,0", "no,-5", "no,016", "no,\u0663",
+                     "no,7;ring=-5", "no,9;ring=-5;wholes=0,2", "no,11;wholes=-9", f"no,9;ring=0;wholes=1,{10 ** 400}",
+                     "ok,2,5,-1" + ANSWER[6:], b"no,\xff"):
+            with self.assertRaisesRegex(ValueError, "not an answer line"):
                 Answer.read(line)
 
     def test_a_zero_has_no_sign(self):

@@ -8,8 +8,8 @@ from tests.support import TOP, Folder
 
 PLACES = (
     "README.md", "crates/error/specs/Refusals.antt", "crates/error/src/lib.rt", "docs/REQUIREMENTS.md",
-    "docs/DECISIONS.md", "include/lizardwire.h", "oracle/src/answer.rs", "python/lizardwire/refusals.py", "rust/src/refusal.rs",
-    "tools/places",
+    "docs/DECISIONS.md", "include/lizardwire.h", "oracle/src/answer.rs", "python/lizardwire/refusals.py",
+    "python/tests/words.txt", "rust/src/refusal.rs", "rust/src/words.rs", "tools/places",
 )
 TABLE = "docs/REFUSALS.md"
 
@@ -26,16 +26,25 @@ ERRORS = (
     ("docs/DECISIONS.md", "Numbers 1 to 22", "Numbers 1 to 21"),
     ("include/lizardwire.h", "a coordinate beyond +-1e9 ", "a coordinate beyond +-1e8 "),
     ("include/lizardwire.h", "first: 387, value: what remained", "first: 387"),
+    ("include/lizardwire.h", 'return "the distance is below 0"', 'return "the distance is 0"'),
+    ("include/lizardwire.h", 'case LW_REFUSED_SHORT: return "the lent memory', 'case LW_REFUSED_SHAPE: return "the lent memory'),
     ("oracle/src/answer.rs", "&[iterations as usize], &[residual]", "&[iterations as usize], &[]"),
     ("oracle/src/answer.rs", "{ distance } => Refusal::of(16,", "{ distance } => Refusal::of(17,"),
     ("oracle/src/answer.rs", "Err(Refusal::of(13, &[], &[]))", "Err(Refusal::of(22, &[], &[]))"),
     ("python/lizardwire/refusals.py", '12: (("first", "first"), ("second", "second"))', '12: (("first", "second"), ("second", "first"))'),
     ("python/lizardwire/refusals.py", 'this is not a job line"', 'this is no job"'),
-    ("python/lizardwire/refusals.py", "if number == 17:", "if number == 170:"),
+    ("python/lizardwire/refusals.py", '    17: "at {distance}', '    170: "at {distance}'),
+    ("python/lizardwire/refusals.py", "{room} vertices", "{most} vertices"),
+    ("python/tests/words.txt", "19 | unknown | 0 3 0 0.0 |  |  | 3 holes would be left: 8 is the limit\n", ""),
+    ("python/tests/words.txt", "22 | unknown |", "22 | given |"),
+    ("python/tests/words.txt", "|  | refused\n", "|  | this is new\n"),
     ("rust/src/refusal.rs", "/// 8: an area of nothing beside the outline's span.", "/// 8: no area."),
     ("rust/src/refusal.rs", "10 => Self::ManyHoles { holes: first }", "10 => Self::ManyHoles { holes: second }"),
     ("rust/src/refusal.rs", "Self::Shape => 21", "Self::Shape => 20"),
     ("rust/src/refusal.rs", "        residual: f64,\n", ""),
+    ("rust/src/words.rs", '14 => "the distance is below 0"', '14 => "the distance is 0"'),
+    ("rust/src/words.rs", '        19 => "more than 8 holes would be left",\n', ""),
+    ("rust/src/words.rs", '        20 => "the lent', '        24 => "the lent'),
     ("tools/places", "question 1 to 22", "question 1 to 21"),
 )
 
@@ -79,4 +88,6 @@ class Held(Folder):
         places, said = self.told("--write")
         self.assertEqual(places, set(PLACES) - {"README.md", "include/lizardwire.h"}, said)
         self.assertIn("| 23 | too few columns | columns, how wide |\n", self.get("README.md"))
-        self.assertRegex(self.get("include/lizardwire.h"), r"\n \*  23  too few columns +first: columns, value: how wide\n")
+        header = self.get("include/lizardwire.h")
+        self.assertIn("    /* too few columns (first: columns, value: how wide) */\n    LW_REFUSED_COLUMNS = 23\n", header)
+        self.assertIn('    case LW_REFUSED_COLUMNS: return "too few";\n', header)

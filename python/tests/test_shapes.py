@@ -7,6 +7,8 @@ import subprocess
 import sys
 import tempfile
 import unittest
+from decimal import Decimal
+from fractions import Fraction
 from unittest import mock
 
 import lizardwire
@@ -107,6 +109,8 @@ class Questions(unittest.TestCase):
 
     def test_points_of_any_sequence(self):
         self.assertEqual(inset([[0, 0], [4, 0], [4, 4], [0, 4]], 1).outer, inset(iter(SQUARE), 1).outer)
+        for kind in (Decimal, Fraction, int):
+            self.assertEqual(inset([(kind(x), kind(y)) for x, y in SQUARE], kind(1)), inset(SQUARE, 1))
 
 
 class Regions(unittest.TestCase):
@@ -151,7 +155,7 @@ class Words(unittest.TestCase):
 
     def test_every_number_has_words(self):
         names = {name: 1 for fields in lizardwire.refusals.CARRIES.values() for name, _ in fields}
-        for number in range(1, 23):
+        for number in lizardwire.refusals.PLAIN:
             values = {name: names[name] for name, _ in lizardwire.refusals.CARRIES.get(number, ())}
             for carried in (values, None):
                 self.assertGreater(len(Refused(number, carried).words), 10)
@@ -176,9 +180,10 @@ class Words(unittest.TestCase):
 class Finding(unittest.TestCase):
     def test_where_it_is_looked_for(self):
         with mock.patch.dict(os.environ, {"LIZARDWIRE_LIBRARY": ""}):
-            here, repository = _library.places()
-        self.assertEqual(os.path.dirname(here), os.path.dirname(lizardwire.__file__))
-        self.assertTrue(repository.endswith(os.path.join("target", "shared", "liblizardwire.so")))
+            places = _library.places()
+        self.assertEqual([os.path.basename(place) for place in places], ["liblizardwire.so", "liblizardwire.so.1"] * 2)
+        self.assertEqual([os.path.dirname(place) for place in places[:2]], [os.path.dirname(lizardwire.__file__)] * 2)
+        self.assertTrue(all(os.path.dirname(place).endswith(os.path.join("target", "shared")) for place in places[2:]))
 
     def test_missing(self):
         with mock.patch.dict(os.environ, {"LIZARDWIRE_LIBRARY": "/no/such/file.so"}), mock.patch.object(_library, "_loaded", None):
@@ -195,17 +200,36 @@ class Finding(unittest.TestCase):
                                   check=True, capture_output=True, text=True)
             self.assertEqual(done.stdout.split(), [os.path.join(os.path.realpath(folder), "lizardwire", "liblizardwire.so")] * 2)
 
+    def refused(self, path):
+        """Why a file is not the library."""
+        with mock.patch.dict(os.environ, {"LIZARDWIRE_LIBRARY": path}), mock.patch.object(_library, "_loaded", None):
+            with self.assertRaises(LibraryMissing) as caught:
+                hypot(3, 4)
+        return str(caught.exception)
+
     @unittest.skipUnless(hasattr(_ctypes, "__file__"), "no other library is at hand")
     def test_another_library(self):
         """One that can be opened and lacks a function is told by the function's name."""
-        with mock.patch.dict(os.environ, {"LIZARDWIRE_LIBRARY": _ctypes.__file__}), mock.patch.object(_library, "_loaded", None):
-            with self.assertRaisesRegex(LibraryMissing, "has no lw_hypot"):
-                hypot(3, 4)
+        self.assertIn("has no lw_version", self.refused(_ctypes.__file__))
 
     def test_not_a_library(self):
-        with mock.patch.dict(os.environ, {"LIZARDWIRE_LIBRARY": __file__}), mock.patch.object(_library, "_loaded", None):
-            with self.assertRaises(LibraryMissing):
-                hypot(3, 4)
+        self.assertIn("cannot be opened", self.refused(__file__))
+
+    def test_another_interface(self):
+        """The number in the library's own name says which functions it has, whatever the file is called."""
+        library = _library.library()._name
+        with open(library, "rb") as file:
+            data = file.read()
+        self.assertEqual(_library._interface(library), _library.INTERFACE)
+        with tempfile.NamedTemporaryFile(suffix=".so") as other:
+            other.write(data.replace(b"\0liblizardwire.so.1\0", b"\0liblizardwire.so.2\0"))
+            other.flush()
+            self.assertIn("is liblizardwire.so.2: this package is written for liblizardwire.so.1", self.refused(other.name))
+
+    def test_an_older_version(self):
+        with mock.patch.object(_library, "VERSION", 10 ** 6):
+            self.assertRegex(self.refused(_library.library()._name), r"is of version \d+: this package needs 1000000 or later")
+        self.assertEqual(lizardwire.version(), _library.VERSION)
 
 
 if __name__ == "__main__":

@@ -49,7 +49,8 @@ class Elements(unittest.TestCase):
                 ('<rect width="3" height="3" rx="1"/>', "rect 1 is not read: it has round corners"),
                 ('<rect width="3mm" height="3"/>', "rect 1 is not read: its place or size is not a plain number"),
                 ('<polygon points="0 0 1 0 1"/>', "polygon 1 is not read: it has an odd count of coordinates"),
-                ('<path id="curl" d="M0 0q1 1 2 2z"/>', "path 'curl' is not read: it has a curve (q); turn curves into straight edges first"),
+                ('<path id="curl" d="M0 0q1 1 2 2z"/>',
+                 "path 'curl' is not read: it has a curve (q); turn curves into straight edges first"),
                 ('<path d="M0 0A1 1 0 0 0 2 2z"/>', "path 1 is not read: it has an arc (A); turn curves into straight edges first"),
                 ('<path d="M0 0L1"/>', "path 1 is not read: L lacks a number"),
                 ('<path d="0 0L1 1"/>', "path 1 is not read: a number stands where a command should"),
@@ -72,10 +73,17 @@ class Elements(unittest.TestCase):
                              (f'<rect id="a" {label} {box}><title>tail</title></rect>', "tail")):
             self.assertEqual(read(inside)[0][0].name, name)
 
+    def test_too_deep(self):
+        with self.assertRaisesRegex(ValueError, "nested too deeply"):
+            read("<g>" * 5000 + "</g>" * 5000)
+
     def test_no_svg(self):
         for data in (b"<html/>", b"<svg", b"inset,1", b""):
             with self.assertRaises(ValueError):
                 svg.read(data)
+        for encoding in (b"none", b"shift_jis"):
+            with self.assertRaisesRegex(ValueError, "this is not an SVG file: .*encoding"):
+                svg.read(b'<?xml version="1.0" encoding="' + encoding + b'"?><svg/>')
         self.assertTrue(svg.is_svg(b"\xef\xbb\xbf\n<svg/>"))
         self.assertFalse(svg.is_svg(b"inset,3ff"))
 
