@@ -152,6 +152,8 @@ fn e12_range() {
 #[test]
 fn e13_hypot() {
     assert_eq!(hypot(3.0, 4.0), 5.0);
+    // Other libraries round this root to its neighbour.
+    assert_eq!(hypot(118.98, 454.86), 470.16365235947364);
 }
 
 #[test]
