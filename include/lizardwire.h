@@ -4,8 +4,8 @@
  * (`tools/library` builds both). The library is for x86-64 Linux. It allocates
  * nothing, keeps nothing between calls, calls nothing of yours, and may be
  * called from any number of threads at once. A job line takes 200 KB of stack,
- * a region's inset 169, an outline's offset 131, the check of a region 59, any
- * other question about a region 26, and anything else less than 2 KB (a KB is
+ * a region's inset 169, an outline's offset 131, the check of a region 53, any
+ * other question about a region 26, and anything else less than 3 KB (a KB is
  * 1,000 bytes).
  *
  * Numbers come as one flat list of doubles, east then north of each vertex.
@@ -132,7 +132,7 @@ static inline const char *lw_words(size_t refusal) {
 
 /* The version of this header. It goes up with every function that is added; one that is
  * here stays as it is for as long as the number in the shared library's name does. */
-#define LW_VERSION 1
+#define LW_VERSION 2
 
 /* The most that a shape holds. */
 #define LW_VERTICES 128      /* an outline, or the outer ring of a region */
@@ -186,6 +186,14 @@ typedef struct LwLength {
     size_t refusal;
     double length;  /* 0 where refused */
 } LwLength;
+
+typedef struct LwMeeting {
+    size_t refusal;
+    size_t meets;    /* 1 where an edge of one outline meets an edge of the other; 0 where none does, or refused */
+    size_t outer;    /* of the outer walk, the lowest edge that meets any; 0 where `meets` is 0, and so are the two below */
+    size_t inner;    /* of the inner walk, the lowest edge that it meets */
+    size_t swapped;  /* 1 where the second outline, having fewer vertices, is in the outer walk */
+} LwMeeting;
 
 typedef struct LwPoint {
     size_t refusal;
@@ -286,6 +294,16 @@ LwLength lw_extent(const double *outline, size_t count);
  * of the second to an edge of the first, and 0 if an edge of one meets an edge of the
  * other. Refusals: 21 of the first, then of the second. */
 LwLength lw_clearance(const double *first, size_t first_count, const double *second, size_t second_count);
+
+/* Does an edge of one outline meet an edge of the other, and which two are the first that do?
+ * Edges meet if they share a point, which is told exactly; one outline inside the other does
+ * not make them meet. The outer walk is over the outline of fewer vertices, of two with as many
+ * over the first. `outer` is the lowest edge there that meets any edge of the other outline,
+ * and `inner` the lowest edge of the other that it meets, each counted in its outline as it is
+ * handed in. So the pair is not in the order of the arguments: where `swapped` is 1, `outer` is
+ * an edge of the second and `inner` one of the first. Refusals: 21 of the first, then of the
+ * second. */
+LwMeeting lw_meeting(const double *first, size_t first_count, const double *second, size_t second_count);
 
 /* Vertex k; (0, 0) where there are no more than k. Refusals: 21. */
 LwPoint lw_vertex(const double *outline, size_t count, size_t k);

@@ -64,10 +64,12 @@ pub enum Question {
     Meet([[[f64; 2]; 2]; 2]),
     /// Whether two edges overlap that share the first point.
     Fold([[f64; 2]; 3]),
+    /// The edges at which two rings meet.
+    Pair(Shape, Shape),
 }
 
 /// How many kinds of questions there are.
-pub const KINDS: usize = 15;
+pub const KINDS: usize = 16;
 
 /// Names of the kinds.
 pub const NAMES: [&str; KINDS] = [
@@ -86,6 +88,7 @@ pub const NAMES: [&str; KINDS] = [
     "turn",
     "meet",
     "fold",
+    "pair",
 ];
 
 impl Question {
@@ -125,6 +128,7 @@ impl Question {
             Self::Turn(_) => 12,
             Self::Meet(_) => 13,
             Self::Fold(_) => 14,
+            Self::Pair(..) => 15,
         }
     }
 
@@ -137,7 +141,7 @@ impl Question {
                 [vec![shape.count], raw(point), raw(&shape.numbers)].concat()
             }
             Self::Measures(shape) => [vec![shape.count], raw(&shape.numbers)].concat(),
-            Self::Clearance(first, second) => [
+            Self::Clearance(first, second) | Self::Pair(first, second) => [
                 vec![first.count, second.count],
                 raw(&first.numbers),
                 raw(&second.numbers),
@@ -186,6 +190,7 @@ impl Question {
             Self::Fold([shared, a, b]) => {
                 vec![u64::from(Outline::oracle_folds_back(*shared, *a, *b))]
             }
+            Self::Pair(first, second) => pair(first, second),
         }
     }
 
@@ -246,9 +251,8 @@ fn outline(numbers: &[f64]) -> Vec<u64> {
     [carried.to_vec(), stored(made.as_ref().ok())].concat()
 }
 
-/// Question 21, then the outline: the reference is asked on what its `new`
-/// gives, so the numbers have to be those of a stored outline.
-fn proper(shape: &Shape) -> Result<Outline, Refusal> {
+/// Question 21: the numbers of so many vertices.
+fn proper(shape: &Shape) -> Result<&[f64], Refusal> {
     let improper = Err(Refusal::of(21, &[], &[]));
     if shape.count < 3 || shape.count > ROOM as u64 {
         return improper;
@@ -259,6 +263,13 @@ fn proper(shape: &Shape) -> Result<Outline, Refusal> {
     if !numbers.iter().all(|x| x.abs() <= MAX_COORDINATE) {
         return improper;
     }
+    Ok(numbers)
+}
+
+/// Question 21, then the outline: the reference is asked on what its `new`
+/// gives, so the numbers have to be those of a stored outline.
+fn proper_outline(shape: &Shape) -> Result<Outline, Refusal> {
+    let numbers = proper(shape)?;
     let outline = new_outline(numbers).expect("an outline");
     assert_eq!(numbers_of(&outline), numbers, "as it is stored");
     Ok(outline)
@@ -280,7 +291,7 @@ pub(crate) fn checked(point: [f64; 2]) -> Result<PlanarPoint, Refusal> {
 }
 
 fn asked(shape: &Shape, point: [f64; 2]) -> Result<(Outline, PlanarPoint), Refusal> {
-    let outline = proper(shape)?;
+    let outline = proper_outline(shape)?;
     Ok((outline, checked(point)?))
 }
 
@@ -322,7 +333,7 @@ fn nearest(shape: &Shape, point: [f64; 2]) -> Vec<u64> {
 }
 
 fn measures(shape: &Shape) -> Vec<u64> {
-    match proper(shape) {
+    match proper_outline(shape) {
         Err(refusal) => vec![u64::from(refusal.number), 0, 0, 0, 0],
         Ok(outline) => vec![
             0,
@@ -337,7 +348,7 @@ fn measures(shape: &Shape) -> Vec<u64> {
 /// The least gap over the second's vertices against the first's edges, 0 if
 /// the rings meet; an infinite one reads 0.
 fn clearance(first: &Shape, second: &Shape) -> Vec<u64> {
-    let outlines = proper(first).and_then(|first| Ok((first, proper(second)?)));
+    let outlines = proper_outline(first).and_then(|first| Ok((first, proper_outline(second)?)));
     match outlines {
         Err(refusal) => vec![u64::from(refusal.number), 0],
         Ok((first, second)) => {
@@ -354,13 +365,30 @@ fn clearance(first: &Shape, second: &Shape) -> Vec<u64> {
     }
 }
 
+/// Question 21 of both, then of the rings as they are handed in: whether they
+/// meet, the edge of the outer walk, that of the inner one, and whether the
+/// second is in the outer walk.
+fn pair(first: &Shape, second: &Shape) -> Vec<u64> {
+    let rings = proper(first).and_then(|first| Ok((points(first)?, points(proper(second)?)?)));
+    let (number, found) = match rings {
+        Err(refusal) => (u64::from(refusal.number), None),
+        Ok((first, second)) => (0, Outline::oracle_pair(&first, &second)),
+    };
+    match found {
+        None => vec![number, 0, 0, 0, 0],
+        Some((outer, inner, swapped)) => {
+            vec![number, 1, outer as u64, inner as u64, u64::from(swapped)]
+        }
+    }
+}
+
 /// Edge k; from the last on, (0, 0) twice.
 fn edge(shape: &Shape, place: u64) -> Vec<u64> {
     let ends = |outline: Outline| {
         let edge = outline.edges().nth(usize::try_from(place).ok()?);
         edge.map(|(start, end)| [start.xy(), end.xy()].concat())
     };
-    let (number, ends) = match proper(shape) {
+    let (number, ends) = match proper_outline(shape) {
         Err(refusal) => (u64::from(refusal.number), None),
         Ok(outline) => (0, ends(outline)),
     };
@@ -410,7 +438,7 @@ fn area(value: f64) -> Vec<u64> {
 
 /// Questions 21 and 13, then what the reference answers.
 fn offset_of(outward: bool, distance: f64, shape: &Shape) -> Result<Outline, Refusal> {
-    let outline = proper(shape)?;
+    let outline = proper_outline(shape)?;
     let distance = checked_distance(distance)?;
     let result = if outward {
         outline.outset(distance)

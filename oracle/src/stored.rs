@@ -4,7 +4,7 @@
 use std::collections::BTreeMap;
 
 use crate::answer::{answer_line, Answer};
-use crate::generate::{self, offset, question, region, turning};
+use crate::generate::{self, offset, pair, question, region, turning};
 use crate::job::{Job, LONGEST};
 use crate::outlines::{new_outline, numbers_of, Question, Shape};
 use crate::regions::{Changed, Given};
@@ -162,14 +162,15 @@ pub fn chosen_questions() -> Vec<Question> {
 
 /// The questions of the stored list: 700 of each of the seeds 1, 2 and 3, 700
 /// offsets of seed 27, 500 questions about regions of seed 200, 450 about
-/// points of seed 1, the chosen jobs: of one ring as an offset, or as an
-/// outline where that is refused, of more as an inset of a region; and the
-/// chosen questions.
+/// points of seed 1, 400 about pairs of rings of seed 1, the chosen jobs: of
+/// one ring as an offset, or as an outline where that is refused, of more as
+/// an inset of a region; and the chosen questions.
 pub fn questions() -> impl Iterator<Item = Question> {
     let asked = (1..=3).flat_map(|seed| (0..700).map(move |index| question(seed, index)));
     let asked = asked.chain((0..700).map(|index| offset(27, index)));
     let asked = asked.chain((0..500).map(|index| region(200, index)));
     let asked = asked.chain((0..450).map(|index| turning(1, index)));
+    let asked = asked.chain((0..400).map(|index| pair(1, index)));
     let asked = asked.chain(chosen().map(|line| {
         let job = Job::read(line).expect("a chosen job");
         Question::of_job(&job)

@@ -3,8 +3,8 @@
 //!
 //! Of a question of each kind, granted and refused, or answered with 0 and with
 //! another number, every field of the answer is wrong once, the others being
-//! right; and once each it has a field too many and one too few. Some lines
-//! cannot be read at all.
+//! right; and once each it has a field too many and one too few. Pairs of rings
+//! have the answers of other readings as well. Some lines cannot be read at all.
 
 use crate::outlines::{Question, Shape, KINDS};
 use crate::regions::{Changed, Given};
@@ -76,6 +76,38 @@ pub fn asked() -> Vec<Question> {
         Question::Meet([[[0.0, 0.0], [4.0, 0.0]], [[2.0, 5e-324], [2.0, 5.0]]]),
         Question::Fold([[4.0, 4.0], [4.0, 0.0], [4.0, 2.0]]),
         Question::Fold([[12.0, 12.0], [0.5, 0.5000000000000001], [1.0, 1.0]]),
+        // The second in the outer walk, apart, 21.
+        Question::Pair(shape(SQUARE), shape(&[8.0, 8.0, 14.0, 8.0, 14.0, 14.0])),
+        Question::Pair(triangle(), shape(&far)),
+        Question::Pair(triangle(), shape(&far[..4])),
+    ]
+}
+
+/// Pairs of rings with the answers of other readings: of which ring is in the
+/// outer walk, of which edge stands first, of which edge is found.
+pub fn misread() -> Vec<(&'static str, Question, [u64; 5])> {
+    // Of the pointed one edge 0 meets edge 3 of the square, 1 meets 0 and 3, 2
+    // meets 0: it is in the outer walk, and the pair is 0 and 3.
+    let pointed = [5.0, 5.0, -5.0, 5.0, 5.0, -4.0];
+    let second = || Question::Pair(shape(SQUARE), shape(&pointed));
+    let first = || Question::Pair(shape(&pointed), shape(SQUARE));
+    // Of the left edge 1 meets 1 and 2 of the right, 2 meets 0 and 1: the pair
+    // is 1 and 1, or else 0 of the right and 2 of the left.
+    let left = [0.0, 3.0, 0.0, 0.0, 4.0, 0.0];
+    let right = [1.0, 1.0, 5.0, 1.0, 1.0, -1.0];
+    let alike = || Question::Pair(shape(&left), shape(&right));
+    vec![
+        ("named order", second(), [0, 1, 3, 0, 1]),
+        ("named order, not swapped", second(), [0, 1, 3, 0, 0]),
+        ("first named outside", second(), [0, 1, 0, 1, 0]),
+        ("longer outside", first(), [0, 1, 0, 1, 1]),
+        ("of equal ones the second outside", alike(), [0, 1, 0, 2, 1]),
+        ("outer edge not the lowest", second(), [0, 1, 2, 0, 1]),
+        ("outer edge not the lowest", alike(), [0, 1, 2, 0, 0]),
+        ("inner edge not the lowest", alike(), [0, 1, 1, 2, 0]),
+        ("swapped told wrongly", second(), [0, 1, 0, 3, 0]),
+        ("swapped told wrongly", first(), [0, 1, 0, 3, 1]),
+        ("swapped told wrongly", alike(), [0, 1, 1, 1, 1]),
     ]
 }
 
@@ -115,6 +147,8 @@ pub fn lines() -> Vec<(Option<usize>, String)> {
             lines.push((Some(question.kind()), question.line_with(&answer)));
         }
     }
+    let misread = misread().into_iter();
+    lines.extend(misread.map(|(_, asked, told)| (Some(asked.kind()), asked.line_with(&told))));
     lines.extend(unread().map(|line| (None, line)));
     lines
 }

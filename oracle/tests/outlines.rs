@@ -1,7 +1,10 @@
 //! Questions about outlines and regions, and their answers.
 
-use std::collections::{BTreeMap, BTreeSet};
+mod cases;
 
+use std::collections::BTreeSet;
+
+use cases::Cases;
 use oracle::answer::answer_line;
 use oracle::outlines::{turn_number, Question, Shape, Tally, KINDS};
 use oracle::regions::Given;
@@ -220,29 +223,13 @@ fn the_stored_list_reaches_every_number() {
         &[0, 1, 2, 3],
         &[0, 1],
         &[0, 1],
+        &[0, 21],
     ];
     for (kind, numbers) in tally.numbers.iter().enumerate() {
         for (number, count) in numbers.iter().enumerate() {
             let reached = reached[kind].contains(&number);
             assert_eq!(*count > 0, reached, "kind {kind}, number {number}");
         }
-    }
-}
-
-/// Named cases, and how often each was met.
-#[derive(Default)]
-struct Cases(BTreeMap<&'static str, usize>);
-
-impl Cases {
-    fn add(&mut self, tests: Vec<(&'static str, bool)>) {
-        for (name, met) in tests {
-            *self.0.entry(name).or_default() += usize::from(met);
-        }
-    }
-
-    fn missed(&self) -> Vec<&'static str> {
-        let missed = self.0.iter().filter(|case| *case.1 == 0);
-        missed.map(|case| *case.0).collect()
     }
 }
 
@@ -455,6 +442,8 @@ fn other_cases(question: &Question, answer: &[u64]) -> Vec<(&'static str, bool)>
             region_cases(question, answer)
         }
         Question::Turn(_) | Question::Meet(_) | Question::Fold(_) => point_cases(question, answer),
+        // In tests/pairs.rs.
+        Question::Pair(..) => vec![],
     }
 }
 

@@ -1,9 +1,12 @@
 //! The rounded turns, chosen at start-up; alone in its process.
 
+mod rings;
+
 use oracle::answer::answer_line;
 use oracle::job::Job;
 use oracle::outlines::{new_outline, numbers_of, Outline, Question, Shape};
-use oracle::turns;
+use oracle::{stored, turns};
+use rings::as_it_should;
 
 type Ring<'a> = &'a [[f64; 2]];
 
@@ -40,6 +43,10 @@ fn the_choice() {
     let (near, on) = ([0.5, 0.5000000000000001], [12.0, 12.0]);
     let slope: Ring = &[[0.0, 0.0], [24.0, 24.0], [0.0, 24.0]];
     let straight = |a, b, c| Question::Turn([a, b, c]).answer() == [0];
+    let pairs = stored::questions().filter(|asked| matches!(asked, Question::Pair(..)));
+    let pairs: Vec<Question> = pairs.collect();
+    let edges = || -> Vec<Vec<u64>> { pairs.iter().map(Question::answer).collect() };
+    let exactly = edges();
     // The exact turn where nothing was said.
     let exact = || {
         assert!(told(&[thin]).starts_with("ok,1,4,"));
@@ -60,6 +67,11 @@ fn the_choice() {
     assert!(straight(near, on, [24.0, 24.0]));
     assert_eq!(Question::Fold([on, near, [1.0, 1.0]]).answer(), [1]);
     rows(false);
+    // The lowest pair all the same; of some stored pairs another one, or none.
+    as_it_should();
+    let both = || exactly.iter().zip(edges()).filter(|(a, b)| *a != b);
+    assert!(both().any(|(a, b)| a[1] == b[1]));
+    assert!(both().any(|(a, b)| a[1] != b[1]));
     turns::use_rounded(false);
     exact();
 }

@@ -1,5 +1,5 @@
-"""Doubles as whole numbers, and turns, meetings and folds of points in them: what R-9 says, worked out in another way than the
-library's.
+"""Doubles as whole numbers, and turns, meetings and folds of points and the pair of edges of two rings in them: what R-9 and R-3
+say, worked out in another way than the library's.
 
 A finite double is a whole number of units of the smallest one, 2^-1074, and so each answer here is exact, but for what is
 said to be in doubles or rounded.
@@ -79,8 +79,12 @@ def on_segment(point, a, b):
 
 
 def share(p1, p2, q1, q2):
-    """Whether two segments with finite ends have a point in common: p1 + s * d = q1 + t * e with s and t from 0 to 1."""
-    p1, p2, q1, q2 = map(whole, (p1, p2, q1, q2))
+    """Whether two segments with finite ends have a point in common."""
+    return common(*map(whole, (p1, p2, q1, q2)))
+
+
+def common(p1, p2, q1, q2):
+    """The same of segments in units: p1 + s * d = q1 + t * e with s and t from 0 to 1."""
     (d, f), (e, g), (w, v) = ((b[0] - a[0], b[1] - a[1]) for a, b in ((p1, p2), (q1, q2), (p1, q1)))
     bound = e * f - d * g
     if bound:
@@ -138,9 +142,23 @@ def on_rounded(point, ring):
                and min(a[1], b[1]) <= point[1] <= max(a[1], b[1]) for a, b in edges(ring))
 
 
+def walk(outer, inner):
+    """The lowest edge of the outer ring that has a point in common with any of the inner one, and the lowest of these."""
+    outer, inner = (edges([whole(vertex) for vertex in ring]) for ring in (outer, inner))
+    return next(((j, k) for j, edge in enumerate(outer) for k, other in enumerate(inner) if common(*edge, *other)), None)
+
+
+def ring_pair(first, second):
+    """Where two rings have a point in common, the edge of the outer walk, that of the inner walk, and whether the second ring is
+    in the outer walk, as it is where it has fewer vertices."""
+    swapped = len(second) < len(first)
+    found = walk(second, first) if swapped else walk(first, second)
+    return found and (*found, swapped)
+
+
 def rings_share(ring, other):
     """Whether two rings have a point in common."""
-    return any(share(*first, *second) for first in edges(ring) for second in edges(other))
+    return walk(ring, other) is not None
 
 
 def clearance(first, second):

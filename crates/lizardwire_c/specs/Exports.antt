@@ -17,6 +17,7 @@ unfoldable pub use Rattle.outline_lent.specs.Direct.{outline-told, over-outline
 use Rattle.outline_ask.specs.declared.Placed.{Placed}
 use Rattle.outline_ask.specs.declared.Neared.{Neared}
 use Rattle.outline_ask.specs.declared.Measured.{Measured}
+use Rattle.outline_ask.specs.declared.Met.{Met}
 use Rattle.outline_ask.specs.declared.Footed.{Footed}
 use Rattle.outline_ask.specs.declared.Edged.{Edged}
 use Rattle.job_answer.specs.declared.Answered.{Answered}
@@ -25,17 +26,18 @@ use Rattle.told.specs.declared.LwPlace.{LwPlace}
 use Rattle.told.specs.declared.LwNearest.{LwNearest}
 use Rattle.told.specs.declared.LwArea.{LwArea}
 use Rattle.told.specs.declared.LwLength.{LwLength}
+use Rattle.told.specs.declared.LwMeeting.{LwMeeting}
 use Rattle.told.specs.declared.LwPoint.{LwPoint}
 use Rattle.told.specs.declared.LwEdge.{LwEdge}
 use Rattle.told.specs.declared.LwOffset.{LwOffset}
 use Rattle.told.specs.declared.LwLine.{LwLine}
-use Rattle.told.specs.Told.{outline-answer, place-answer, nearest-answer, area-answer, length-answer, point-answer, edge-answer}
-use Rattle.told.specs.Told.{offset-answer, line-answer}
+use Rattle.told.specs.Told.{outline-answer, place-answer, nearest-answer, area-answer, length-answer, meeting-answer, point-answer}
+use Rattle.told.specs.Told.{edge-answer, offset-answer, line-answer}
 unfoldable pub use Rattle.told.specs.Told.{vertices}
 
 -- the number of the functions for C, LW_VERSION of the header: it goes up with every function that is added
 abbrev pub version : ℕ
-version = 1
+version = 2
 
 -- ---- the check of an outline, whose stored ring is written to lent output
 
@@ -59,6 +61,9 @@ told-area a = area-answer (carried (a .refusal)) (a .area .value)
 
 unfoldable pub told-length : Measured → LwLength
 told-length a = length-answer (carried (a .refusal)) (a .value)
+
+unfoldable pub told-meeting : Met → LwMeeting
+told-meeting a = meeting-answer (carried (a .refusal)) (a .meets) (a .outer) (a .inner) (a .swapped)
 
 unfoldable pub told-point : Footed → LwPoint
 told-point a = point-answer (carried (a .refusal)) (a .point)
@@ -88,5 +93,5 @@ told-line a = line-answer (a .refusal) (carried (a .refusal)) (a .count)
 
 -- opens every definition above, for a proof that computes with all of them
 unfoldable pub open-exports : Unit {0}
-unfolding checked told-outline told-place told-nearest told-area told-length told-point told-edge given told-offset told-line
+unfolding checked told-outline told-place told-nearest told-area told-length told-meeting told-point told-edge given told-offset told-line
 open-exports = tt

@@ -15,6 +15,7 @@ use plane::PlanarPoint;
 use told::LwArea;
 use told::LwEdge;
 use told::LwLength;
+use told::LwMeeting;
 use told::LwNearest;
 use told::LwOffset;
 use told::LwOutline;
@@ -36,7 +37,7 @@ pub(crate) fn given(numbers: &[f64]) -> Outline
 pub extern "C" fn lw_version() -> usize
     ensures { λ r. ⌜ r ≡ Exports.version ⌝ }
 {
-    1
+    2
 }
 
 // math::hypot.
@@ -154,6 +155,21 @@ pub extern "C" fn lw_clearance<'a>(first: &'a [f64], second: &'a [f64]) -> LwLen
     let a = outline_sizes::clearance(first, n, second, m);
     let refusal = a.refusal;
     told::length(refusal, a.value)
+}
+
+// Whether two outlines handed in meet, and by which edges (R-3): 21 of the first, then of the second.
+#[no_mangle]
+pub extern "C" fn lw_meeting<'a>(first: &'a [f64], second: &'a [f64]) -> LwMeeting
+    ensures { λ r. ⌜
+        r ≡ Exports.told-meeting (Queries.meeting (now (first .entry)) (Exports.vertices (length (now (first .entry))))
+        (now (second .entry)) (Exports.vertices (length (now (second .entry)))))
+        ⌝ }
+{
+    let n = told::vertices(first.len());
+    let m = told::vertices(second.len());
+    let a = outline_sizes::meeting(first, n, second, m);
+    let refusal = a.refusal;
+    told::meeting(refusal, a.meets, a.outer, a.inner, a.swapped)
 }
 
 // Vertex k of an outline handed in: 21.

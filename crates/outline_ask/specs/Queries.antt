@@ -1,8 +1,8 @@
 -- What is asked of an outline that is handed in, its numbers and how many vertices they are: question 21 first, then 2 of the point, then
 -- the value.
--- Beside a refusal stands Outside, 0 or (0, 0). Assumes nothing.
+-- Beside a refusal stands Outside, 0, (0, 0) or no pair. Assumes nothing.
 use Prim.Native.Nat.{ℕ}
-use mathlib.Core.Bool.{cond}
+use mathlib.Core.Bool.{Bool, true, false, cond}
 use mathlib.Core.List.{List}
 use lib.Dec.{ltb}
 use lib.Ieee.{Float}
@@ -13,11 +13,14 @@ use Rattle.plane.specs.declared.Containment.{Containment}
 use Rattle.plane.specs.declared.Containment.the-variants.{Outside}
 use Rattle.areas.specs.declared.NewArea.{NewArea}
 use Rattle.ring_near.specs.declared.Nearest.{Nearest}
+use Rattle.ring_cross.specs.declared.pair.Meeting.{Meeting}
+use Rattle.ring_cross.specs.declared.pair.Meeting.the-variants.{Apart, Edges}
 use Rattle.outline_ask.specs.declared.Placed.{Placed}
 use Rattle.outline_ask.specs.declared.Measured.{Measured}
 use Rattle.outline_ask.specs.declared.Footed.{Footed}
 use Rattle.outline_ask.specs.declared.Neared.{Neared}
 use Rattle.outline_ask.specs.declared.Edged.{Edged}
+use Rattle.outline_ask.specs.declared.Met.{Met}
 use Rattle.math.specs.Number.{zero-float}
 use Rattle.math.specs.Number
 use Rattle.error.specs.Refusals.{granted}
@@ -28,6 +31,7 @@ use Rattle.ring_measure.specs.Measures
 use Rattle.ring_contain.specs.Contains.{ring-contains}
 use Rattle.ring_near.specs.Near
 use Rattle.ring_cross.specs.Meet.{rings-meet}
+use Rattle.ring_cross.specs.Pair.{second-outer, ring-pair}
 use Rattle.outline.specs.Outlines.{ask-ring}
 
 -- ---- the answers
@@ -51,6 +55,17 @@ neared r n =
 
 unfoldable pub edged : Refusal → PlanarPoint → PlanarPoint → Edged
 edged r a b = cond (granted r) (record { refusal = Granted; start = a; end = b }) (record { refusal = r; start = origin; end = origin })
+
+-- no pair
+abbrev pub unmet : Refusal → Met
+unmet r = record { refusal = r; meets = false; outer = 0; inner = 0; swapped = false }
+
+unfoldable pub met-by : Meeting → Bool → Met
+met-by Apart swapped = unmet Granted
+met-by (Edges i k) swapped = record { refusal = Granted; meets = true; outer = i; inner = k; swapped = swapped }
+
+unfoldable pub paired : Refusal → Meeting → Bool → Met
+paired r x swapped = cond (granted r) (met-by x swapped) (unmet r)
 
 -- ---- where a point lies, and how far
 
@@ -85,6 +100,10 @@ clearance ps n qs m =
     measured (ask-ring ps n (ask-ring qs m Granted))
     (cond (rings-meet qs m ps n) zero-float (Number.distance (Near.least-gap ps n qs m)))
 
+-- R-3: whether two outlines meet, with the pair of edges
+unfoldable pub meeting : List Float → ℕ → List Float → ℕ → Met
+meeting ps n qs m = paired (ask-ring ps n (ask-ring qs m Granted)) (ring-pair ps n qs m) (second-outer n m)
+
 -- ---- the readers `vertices` and `edges`: edge k runs from vertex k to the vertex after it, the last one closing the ring. There is none
 -- from n on: it reads (0, 0).
 
@@ -99,6 +118,6 @@ edge ps n k = edged (ask-ring ps n Granted) (within n k (vertex-at ps k)) (withi
 
 -- opens every definition above, for a proof that computes with all of them
 unfoldable pub open-queries : Unit {0}
-unfolding placed measured footed neared edged contains distance-to-boundary closest-boundary-point nearest area perimeter extent clearance
-    within vertex edge
+unfolding placed measured footed neared edged met-by paired contains distance-to-boundary closest-boundary-point nearest area perimeter
+    extent clearance meeting within vertex edge
 open-queries = tt

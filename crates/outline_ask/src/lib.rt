@@ -41,6 +41,16 @@ pub struct Edged {
     pub end: PlanarPoint,
 }
 
+// Whether two outlines meet, and by which edges: the outer walk's, then the inner walk's; `swapped` where the second outline is in the
+// outer walk. Where they do not meet, and beside a refusal, nothing is told.
+pub struct Met {
+    pub refusal: Refusal,
+    pub meets: bool,
+    pub outer: usize,
+    pub inner: usize,
+    pub swapped: bool,
+}
+
 // Where a point lies.
 pub fn contains(ps: &[f64], n: usize, p: PlanarPoint) -> Placed
     ensures { λ r. ⌜ r ≡ Queries.contains (now (ps .entry)) n p ⌝ }

@@ -1,11 +1,16 @@
-// Measures of an outline that is handed in, and its clearance: question 21 first.
+// Measures of an outline that is handed in, its clearance, and whether two outlines meet: question 21 first.
 ghost use mathlib.Core.Path.{_≡_};
+ghost use Rattle.error.specs.declared.Refusal.the-variants.{Granted};
+ghost use Rattle.outline.specs.Outlines;
 ghost use Rattle.outline_ask.specs.Queries;
 use areas::Area;
 use areas::NewArea;
 use error::Refusal;
 use outline::entry;
 use outline_ask::Measured;
+use outline_ask::Met;
+use ring_cross::pair;
+use ring_cross::pair::Meeting;
 
 // Beside a refusal: 0.
 pub(crate) fn unmeasured(r: Refusal) -> Measured
@@ -67,11 +72,18 @@ pub fn extent(ps: &[f64], n: usize) -> Measured
     }
 }
 
+// Question 21 of two outlines, of the first before the second.
+pub(crate) fn ask_both<'a>(ps: &'a [f64], n: usize, qs: &'a [f64], m: usize) -> Refusal
+    ensures { λ r. ⌜ r ≡ Outlines.ask-ring (now (ps .entry)) n (Outlines.ask-ring (now (qs .entry)) m Granted) ⌝ }
+{
+    entry::ask_ring(ps, n, entry::ask_ring(qs, m, Refusal::Granted))
+}
+
 // The clearance of the second outline from the first.
 pub fn clearance<'a>(ps: &'a [f64], n: usize, qs: &'a [f64], m: usize) -> Measured
     ensures { λ r. ⌜ r ≡ Queries.clearance (now (ps .entry)) n (now (qs .entry)) m ⌝ }
 {
-    let r = entry::ask_ring(ps, n, entry::ask_ring(qs, m, Refusal::Granted));
+    let r = ask_both(ps, n, qs, m);
     if r.granted() {
         let meet = ring_cross::rings_meet(qs, m, ps, n);
         let gap = ring_near::least_gap(ps, n, qs, m);
@@ -81,5 +93,45 @@ pub fn clearance<'a>(ps: &'a [f64], n: usize, qs: &'a [f64], m: usize) -> Measur
         }
     } else {
         unmeasured(r)
+    }
+}
+
+// No pair: beside a refusal, and where two outlines do not meet.
+pub(crate) fn unmet(r: Refusal) -> Met
+    ensures { λ x. ⌜ x ≡ Queries.unmet r ⌝ }
+{
+    Met {
+        refusal: r,
+        meets: false,
+        outer: 0,
+        inner: 0,
+        swapped: false,
+    }
+}
+
+pub(crate) fn met_by(met: Meeting, swapped: bool) -> Met
+    ensures { λ x. ⌜ x ≡ Queries.met-by met swapped ⌝ }
+{
+    match met {
+        Meeting::Apart => unmet(Refusal::Granted),
+        Meeting::Edges(outer, inner) => Met {
+            refusal: Refusal::Granted,
+            meets: true,
+            outer: outer,
+            inner: inner,
+            swapped: swapped,
+        },
+    }
+}
+
+// Whether two outlines meet, with the pair of edges.
+pub fn meeting<'a>(ps: &'a [f64], n: usize, qs: &'a [f64], m: usize) -> Met
+    ensures { λ r. ⌜ r ≡ Queries.meeting (now (ps .entry)) n (now (qs .entry)) m ⌝ }
+{
+    let r = ask_both(ps, n, qs, m);
+    if r.granted() {
+        met_by(pair::ring_pair(ps, n, qs, m), pair::second_outer(n, m))
+    } else {
+        unmet(r)
     }
 }

@@ -5,7 +5,7 @@ use mathlib.Core.Path.{_≡_, refl, sym, ap, _∙_, subst}
 use mathlib.Core.Logic.{inl, inr}
 use mathlib.Core.Bool.{Bool, true, false, cond, _&&_, false≢true, true≢false}
 use mathlib.Core.List.{List, [], _∷_, _++_}
-use borrow.Author.Tests.{ltb-true, lt-ltb, eqb-true, eqb-false, le-leb, lt-leb, eq-eqb, ne-eqb}
+use borrow.Author.Tests.{ltb-true, lt-ltb, le-ltb, eqb-true, eqb-false, le-leb, lt-leb, eq-eqb, ne-eqb}
 use lib.Dec.{leb, ltb, eqb}
 use lib.ListN.{getD, length, take, drop}
 use lib.Ieee.{Float, nan, inf, fin, le, fits}
@@ -37,16 +37,23 @@ use Rattle.ring_contain.proofs.Exact.{boundary-exact}
 use Rattle.ring_near.specs.declared.Nearest.{Nearest}
 use Rattle.ring_near.proofs.Least.{nearest-least}
 use Rattle.ring_cross.specs.MeetExact.{RingsShare}
+use Rattle.ring_cross.specs.declared.pair.Meeting.{Meeting}
+use Rattle.ring_cross.specs.declared.pair.Meeting.the-variants.{Apart, Edges}
+use Rattle.ring_cross.specs.Pair.{is-met, second-outer, ring-pair}
+use Rattle.ring_cross.specs.PairLaws.{LowestPair}
 use Rattle.ring_cross.proofs.MeetExact.{rings-meet-exact}
+use Rattle.ring_cross.proofs.PairLaws.{pair-tells}
+use Rattle.told.specs.declared.LwMeeting.{LwMeeting}
 use Rattle.ring_cross.proofs.SimpleExact.{simple-exact}
 use Rattle.ring_check.specs.Checks.{max-coordinate}
 use Rattle.margins.specs.Far.{over, under, magnitude, margin-of}
 use Rattle.margins.proofs.Units.{units-of-bits}
 use Rattle.outline.specs.declared.Outline.{Outline}
 use Rattle.outline.specs.declared.NewOutline.{NewOutline}
-use Rattle.outline.specs.Outlines.{outline-refused, new-outline, no-outline, check-finite, outline-if, outline, in-range-step, in-range, proper}
+use Rattle.outline.specs.Outlines.{outline-refused, new-outline, no-outline, check-finite, outline-if, outline, in-range-step, in-range, proper, ask, ask-ring}
 use Rattle.outline_ask.specs.declared.Placed.{Placed}
 use Rattle.outline_ask.specs.declared.Measured.{Measured}
+use Rattle.outline_ask.specs.declared.Met.{Met}
 use Rattle.outline_ask.specs.declared.Footed.{Footed}
 use Rattle.outline_ask.specs.declared.Neared.{Neared}
 use Rattle.outline_ask.specs.declared.Edged.{Edged}
@@ -118,7 +125,7 @@ use Rattle.job_lines.specs.Wire.{finish-written, finish-told, FinishedBy}
 use Rattle.job_lines.proofs.Ends.{finishes, ends-apart, finish-apart}
 use Rattle.stream_c.proofs.Streamed.{made-tells, made-keeps, made-passes, feed-keeps, finish-keeps, feed-leaves, finish-leaves, feed-judges, finish-judges, feeds-on, feeds-enough}
 use Rattle.stream_c.proofs.Streamed.{finishes-on, any-stream}
-use Rattle.told.specs.Told.{outline-answer, place-answer, place-number, nearest-answer, area-answer, length-answer, point-answer, edge-answer, offset-answer, region-answer, inset-answer, line-answer}
+use Rattle.told.specs.Told.{outline-answer, place-answer, place-number, nearest-answer, area-answer, length-answer, meeting-answer, point-answer, edge-answer, offset-answer, region-answer, inset-answer, line-answer}
 use Rattle.region_ask.specs.Boundary.{neared-at, region-nearest}
 use Rattle.region_ask.proofs.Both.{region-nearest-parts}
 use Rattle.region_stored.specs.Stored.{kept, rings, stored-region, given-region}
@@ -130,7 +137,7 @@ use Rattle.region_stored.proofs.Rewritten.{written-again, inset-again}
 use Rattle.region_c.specs.Told.{told-region, region-made, region-over, inset-refused, told-inset, inset-made, inset-over, region-told, alone, told-ring, told-measure}
 use Rattle.region_c.specs.Told.{hole-told, hole-over}
 use Rattle.region_c.proofs.Counted.{region-inset-told, stored-inset-told}
-use Rattle.lizardwire_c.specs.Exports.{given, checked, told-outline, told-place, told-nearest, told-area, told-length, told-point, told-edge, told-offset, told-line}
+use Rattle.lizardwire_c.specs.Exports.{given, checked, told-outline, told-place, told-nearest, told-area, told-length, told-meeting, told-point, told-edge, told-offset, told-line}
 use Rattle.lizardwire_c.proofs.Counted as Counted
 use Rattle.margin.specs.Margin.{Largest, LargestOfRings}
 use Rattle.margin.specs.Drawn.{DrawnMargin, DrawnRings}
@@ -153,7 +160,7 @@ use Rattle.promises.specs.Promises as Promises
 use Rattle.promises.specs.Promises.{Accepted, Refused, Units, NoOutline, NoRegion, Lent, LentRings, EveryInput, RootOf, Length}
 use Rattle.promises.specs.Promises.{Sized, SizedRegion, Answers, InOneRing, Whole, Front, Bounds, FrontWhole}
 use Rattle.promises.specs.Promises.{Extent, RegionExtent, Margin, RingsMargin, TrueDistance}
-use Rattle.promises.specs.Promises.{CommonPoint, ShareAPoint, Plain, ExactMeeting, Holds, NothingTaken, EveryLine, Drawn}
+use Rattle.promises.specs.Promises.{CommonPoint, ShareAPoint, LowestMeeting, Plain, ExactMeeting, Holds, NothingTaken, EveryLine, Drawn}
 
 -- ---- 0. numbers
 
@@ -423,6 +430,82 @@ lw-length : (u : Refusal) (x : Float) → ((told-length (measured u x)) .refusal
 unfolding told-length length-answer
 lw-length u x h = no-measure u x (refused-by ((measured u x) .refusal) h)
 
+-- the pair of two outlines
+met-granted : (x : Meeting) (b : Bool) → (Query.met-by x b) .refusal ≡ Granted
+unfolding Query.met-by
+met-granted Apart b = refl
+met-granted (Edges i k) b = refl
+
+met-meets : (x : Meeting) (b : Bool) → (Query.met-by x b) .meets ≡ is-met x
+unfolding Query.met-by is-met
+met-meets Apart b = refl
+met-meets (Edges i k) b = refl
+
+lw-meeting : (u : Refusal) (x : Meeting) (b : Bool) → let a = told-meeting (Query.paired u x b) in (a .refusal ≡ 0 → ⊥) → a .meets ≡ 0
+unfolding told-meeting meeting-answer Query.paired carried carried-of told values
+lw-meeting u x b =
+    by-test (λ (a : Met). ((told-meeting a) .refusal ≡ 0 → ⊥) → (told-meeting a) .meets ≡ 0) (granted u)
+    (λ g h. absurd (h (ap (λ (r : Refusal). (carried r) .question) (met-granted x b)))) (λ g h. refl)
+
+lw-answered : (ps : List Float) (n : ℕ) (qs : List Float) (m : ℕ) → proper 128 ps n ≡ true → proper 128 qs m ≡ true → (told-meeting (Query.meeting ps n qs m)) .refusal ≡ 0
+unfolding told-meeting meeting-answer Query.meeting Query.paired ask-ring ask granted number carried carried-of told values
+lw-answered ps n qs m e f = rw (e, f) (ap (λ (r : Refusal). (carried r) .question) (met-granted (ring-pair ps n qs m) (second-outer n m)))
+
+lw-no-pair : (u : Refusal) (x : Meeting) (b : Bool) → let a = told-meeting (Query.paired u x b) in a .meets ≡ 0 → (a .outer ≡ 0) × (a .inner ≡ 0) × (a .swapped ≡ 0)
+unfolding told-meeting meeting-answer Query.paired Query.met-by
+lw-no-pair u x b =
+    by-test (λ (a : Met). (told-meeting a) .meets ≡ 0 → ((told-meeting a) .outer ≡ 0) × ((told-meeting a) .inner ≡ 0) × ((told-meeting a) .swapped ≡ 0)) (granted u)
+    (λ g. go x) (λ g h. (refl, refl, refl))
+  where
+    go : (y : Meeting) → (told-meeting (Query.met-by y b)) .meets ≡ 0 → ((told-meeting (Query.met-by y b)) .outer ≡ 0) × ((told-meeting (Query.met-by y b)) .inner ≡ 0) × ((told-meeting (Query.met-by y b)) .swapped ≡ 0)
+    go Apart h = (refl, refl, refl)
+    go (Edges i k) h = absurd (omega (arith, h))
+
+lw-meets : (u : Refusal) (x : Meeting) (b : Bool) → let a = told-meeting (Query.paired u x b) in a .refusal ≡ 0 → a .meets ≡ cond (is-met x) 1 0
+unfolding told-meeting meeting-answer Query.paired
+lw-meets u x b =
+    by-test (λ (a : Met). (told-meeting a) .refusal ≡ 0 → (told-meeting a) .meets ≡ cond (is-met x) 1 0) (granted u)
+    (λ g h. ap (λ (t : Bool). cond t 1 0) (met-meets x b)) (λ g h. absurd (true≢false (sym (granted-by u h) ∙ g)))
+
+lw-pair : (u : Refusal) (x : Meeting) (b : Bool) → let a = told-meeting (Query.paired u x b) in a .meets ≡ 1 → (a .swapped ≡ cond b 1 0) × (x ≡ Edges (a .outer) (a .inner))
+unfolding told-meeting meeting-answer Query.paired Query.met-by
+lw-pair u x b =
+    by-test (λ (a : Met). (told-meeting a) .meets ≡ 1 → ((told-meeting a) .swapped ≡ cond b 1 0) × (x ≡ Edges ((told-meeting a) .outer) ((told-meeting a) .inner))) (granted u)
+    (λ g. go x) (λ g h. absurd (omega (arith, h)))
+  where
+    go : (y : Meeting) → (told-meeting (Query.met-by y b)) .meets ≡ 1 → ((told-meeting (Query.met-by y b)) .swapped ≡ cond b 1 0) × (y ≡ Edges ((told-meeting (Query.met-by y b)) .outer) ((told-meeting (Query.met-by y b)) .inner))
+    go Apart h = absurd (omega (arith, h))
+    go (Edges i k) h = (refl, refl)
+
+lowest : (ps : List Float) (n : ℕ) (qs : List Float) (m i k : ℕ) → LowestPair ps n qs m i k → LowestMeeting ps n qs m i k
+lowest ps n qs m i k w = record {
+  i-under = w .outer;
+  k-under = w .inner;
+  meet = w .meet;
+  lowest-outer = λ j l a b. not-so _ (w .lowest-outer j l a b);
+  lowest-inner = λ l a. not-so _ (w .lowest-inner l a);
+}
+  where
+    not-so : (t : Bool) → (t ≡ true → ⊥) → t ≡ false
+    not-so true f = absurd (f refl)
+    not-so false f = refl
+
+module _ (u : Refusal) (ps : List Float) (n : ℕ) (qs : List Float) (m : ℕ) where
+  abbrev pair-told : LwMeeting
+  pair-told = told-meeting (Query.paired u (ring-pair ps n qs m) (second-outer n m))
+
+  lw-first-outer : pair-told .meets ≡ 1 → n ≤ m → (pair-told .swapped ≡ 0) × LowestMeeting ps n qs m (pair-told .outer) (pair-told .inner)
+  unfolding second-outer
+  lw-first-outer h l =
+      let w = lw-pair u (ring-pair ps n qs m) (second-outer n m) h in
+      (w .0 ∙ ap (λ (t : Bool). cond t 1 0) (le-ltb m n l), lowest ps n qs m _ _ (pair-tells .first-outer ps n qs m _ _ l (w .1)))
+
+  lw-second-outer : pair-told .meets ≡ 1 → m < n → (pair-told .swapped ≡ 1) × LowestMeeting qs m ps n (pair-told .outer) (pair-told .inner)
+  unfolding second-outer
+  lw-second-outer h l =
+      let w = lw-pair u (ring-pair ps n qs m) (second-outer n m) h in
+      (w .0 ∙ ap (λ (t : Bool). cond t 1 0) (lt-ltb m n l), lowest qs m ps n _ _ (pair-tells .second-outer ps n qs m _ _ l (w .1)))
+
 lw-vertex : (u : Refusal) (p : PlanarPoint) → ((told-point (footed u p)) .refusal ≡ 0 → ⊥) →
     ((told-point (footed u p)) .east ≡ zero-float) × ((told-point (footed u p)) .north ≡ zero-float)
 unfolding told-point point-answer
@@ -548,7 +631,7 @@ lw-job-line bytes out = go (leb (length bytes) (length out))
     go false h = (refl, refl, refl)
 
 every-input : EveryInput
-unfolding granted contains nearest area Query.perimeter Query.extent Query.clearance Query.vertex Query.edge region-contains region-area region-perimeter region-nearest from-metres from-square-metres
+unfolding granted contains nearest area Query.perimeter Query.extent Query.clearance Query.meeting Query.vertex Query.edge region-contains region-area region-perimeter region-nearest from-metres from-square-metres
 every-input = record {
   granted-zero = zero-granted;
   numbered = numbered;
@@ -592,6 +675,7 @@ every-input = record {
   lw-perimeter = λ ps. lw-length _ _;
   lw-extent = λ ps. lw-length _ _;
   lw-clearance = λ ps qs. lw-length _ _;
+  lw-meeting = λ ps qs. lw-meeting _ _ _;
   lw-vertex = λ ps k. lw-vertex _ _;
   lw-edge = λ ps k. lw-edge _ _ _;
   lw-region-nearest = λ r p. lw-near _ (no-near _ _ _);
@@ -966,6 +1050,7 @@ plain ps n k = record {
 }
 
 exact-meeting : ExactMeeting
+unfolding Query.meeting
 exact-meeting = record {
   sign = turn-is-sign .sign;
   meeting-share = λ p1 p2 q1 q2 a b c d e. common p1 p2 q1 q2 (meet-iff-shared .meeting-share p1 p2 q1 q2 a b c d e);
@@ -977,6 +1062,12 @@ exact-meeting = record {
       boundary-exact .lies-told ps n p f g (record { edge = s .edge; under = s .under; lies = shared _ _ _ _ (s .lies) });
   rings-share = λ ps n qs m f g e. sharing (rings-meet-exact .meeting-share ps n qs m f g e);
   sharing-rings = λ ps n qs m f g s. rings-meet-exact .sharing-meet ps n qs m f g (share-told s);
+  either-way = pair-tells .either-way;
+  lw-answered = λ ps qs. lw-answered ps _ qs _;
+  lw-no-pair = λ ps qs. lw-no-pair _ _ _;
+  lw-meets = λ ps qs h. lw-meets _ _ _ h ∙ ap (λ (t : Bool). cond t 1 0) (pair-tells .as-before ps _ qs _);
+  lw-first-outer = λ ps qs. lw-first-outer _ ps _ qs _;
+  lw-second-outer = λ ps qs. lw-second-outer _ ps _ qs _;
   named = simple-exact .named;
   of-outline = λ ps pd g. plain _ _ (outline-meets-not ps pd g);
   of-offset = λ o outward d od g l. plain _ _ (offset-meets-not o outward d od g l .itself);

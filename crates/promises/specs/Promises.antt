@@ -108,7 +108,7 @@ use Rattle.region_c.specs.Told.{told-region, region-made, region-over, told-ins
 use Rattle.region_c.specs.Told.{region-told, alone, told-ring, told-measure, hole-told, hole-over}
 use Rattle.lizardwire_c.specs.Counted.{OutlineTold}
 use Rattle.lizardwire_c.specs.Exports.{vertices, given, checked, told-outline, told-place, told-length, told-point, told-edge, told-offset}
-use Rattle.lizardwire_c.specs.Exports.{told-nearest, told-area, told-line}
+use Rattle.lizardwire_c.specs.Exports.{told-nearest, told-area, told-meeting, told-line}
 use Rattle.margin.specs.Margin.{Doubles, RegionDoubles}
 use Rattle.margin.specs.Lent.{ring-in}
 use Rattle.margin.specs.Drawn.{given-ring, GivenMargin}
@@ -260,7 +260,8 @@ pub record EveryInput : Type 0 where
       a .place ≡ 0 → a .refusal ≡ 0 → region-contains r p ≡ Outside
   pub lw-region-place : (r : Region) (p : PlanarPoint) → let a = told-place (Asked.region-contains r p) in
       (a .place ≡ 1 → region-contains r p ≡ OnBoundary) × (a .place ≡ 2 → region-contains r p ≡ Inside)
-  -- `lw_nearest`, `lw_area`, `lw_perimeter`, `lw_extent`, `lw_clearance`, `lw_vertex`, `lw_edge`: the numbers beside a refusal are 0
+  -- `lw_nearest`, `lw_area`, `lw_perimeter`, `lw_extent`, `lw_clearance`, `lw_meeting`, `lw_vertex`, `lw_edge`: the numbers beside a
+  -- refusal are 0
   pub lw-nearest : (ps : List Float) (p : PlanarPoint) → let a = told-nearest (nearest ps (vertices (length ps)) p) in
       (a .refusal ≡ 0 → ⊥) → (a .distance ≡ zero-float) × (a .east ≡ zero-float) × (a .north ≡ zero-float)
   pub lw-area : (ps : List Float) → let a = told-area (area ps (vertices (length ps))) in
@@ -272,6 +273,9 @@ pub record EveryInput : Type 0 where
   pub lw-clearance : (ps qs : List Float) → let n = vertices (length ps) in let m = vertices (length qs) in
       let a = told-length (Query.clearance ps n qs m) in
       (a .refusal ≡ 0 → ⊥) → a .length ≡ zero-float
+  pub lw-meeting : (ps qs : List Float) → let n = vertices (length ps) in let m = vertices (length qs) in
+      let a = told-meeting (Query.meeting ps n qs m) in
+      (a .refusal ≡ 0 → ⊥) → a .meets ≡ 0
   pub lw-vertex : (ps : List Float) (k : ℕ) → let a = told-point (Query.vertex ps (vertices (length ps)) k) in
       (a .refusal ≡ 0 → ⊥) → (a .east ≡ zero-float) × (a .north ≡ zero-float)
   pub lw-edge : (ps : List Float) (k : ℕ) → let a = told-edge (Query.edge ps (vertices (length ps)) k) in
@@ -680,6 +684,17 @@ pub record LiesOn (ps : List Float) (n : ℕ) (p : PlanarPoint) : Type 0 where
   pub under : edge < n
   pub lies : CommonPoint (vertex-at ps edge) (edge-end ps n edge) p p
 
+-- The pair of edges by which two rings meet (R-3), ps in the outer walk: edge i is the lowest of ps that meets any of qs, and edge k the
+-- lowest of qs that it meets. Of every two rings, whatever their numbers are.
+pub record LowestMeeting (ps : List Float) (n : ℕ) (qs : List Float) (m i k : ℕ) : Type 0 where
+  pub i-under : i < n
+  pub k-under : k < m
+  pub meet : segments-meet (vertex-at ps i) (edge-end ps n i) (vertex-at qs k) (edge-end qs m k) ≡ true
+  pub lowest-outer : (j l : ℕ) → j < i → l < m →
+      segments-meet (vertex-at ps j) (edge-end ps n j) (vertex-at qs l) (edge-end qs m l) ≡ false
+  pub lowest-inner : (l : ℕ) → l < k →
+      segments-meet (vertex-at ps i) (edge-end ps n i) (vertex-at qs l) (edge-end qs m l) ≡ false
+
 -- No two edges of a ring that have no end in common share a point: i is the lower, j does not come next, and they are not the first and the
 -- last. Of two edges that have an end in common none folds back over the other (`Folded`: an exact turn, and the sign of a rounded dot
 -- product).
@@ -709,6 +724,25 @@ pub record ExactMeeting : Type 0 where
       rings-meet ps n qs m ≡ true → ShareAPoint ps n qs m
   pub sharing-rings : (ps : List Float) (n : ℕ) (qs : List Float) (m : ℕ) → FiniteVertices ps n → FiniteVertices qs m →
       ShareAPoint ps n qs m → rings-meet ps n qs m ≡ true
+  -- it is the same whichever ring is named first
+  pub either-way : (ps : List Float) (n : ℕ) (qs : List Float) (m : ℕ) → rings-meet qs m ps n ≡ rings-meet ps n qs m
+  -- two outlines handed in, `lw_meeting` (R-3): those that pass 21 are answered, with 1 exactly where they meet
+  pub lw-answered : (ps qs : List Float) → let n = vertices (length ps) in let m = vertices (length qs) in
+      proper 128 ps n ≡ true → proper 128 qs m ≡ true → (told-meeting (Query.meeting ps n qs m)) .refusal ≡ 0
+  pub lw-meets : (ps qs : List Float) → let n = vertices (length ps) in let m = vertices (length qs) in
+      let a = told-meeting (Query.meeting ps n qs m) in a .refusal ≡ 0 → a .meets ≡ cond (rings-meet ps n qs m) 1 0
+  -- where they do not meet, and beside a refusal, there is no pair
+  pub lw-no-pair : (ps qs : List Float) → let n = vertices (length ps) in let m = vertices (length qs) in
+      let a = told-meeting (Query.meeting ps n qs m) in
+      a .meets ≡ 0 → (a .outer ≡ 0) × (a .inner ≡ 0) × (a .swapped ≡ 0)
+  -- of as many vertices, or of fewer, the first is in the outer walk
+  pub lw-first-outer : (ps qs : List Float) → let n = vertices (length ps) in let m = vertices (length qs) in
+      let a = told-meeting (Query.meeting ps n qs m) in
+      a .meets ≡ 1 → n ≤ m → (a .swapped ≡ 0) × LowestMeeting ps n qs m (a .outer) (a .inner)
+  -- else the second is, and its edge stands first
+  pub lw-second-outer : (ps qs : List Float) → let n = vertices (length ps) in let m = vertices (length qs) in
+      let a = told-meeting (Query.meeting ps n qs m) in
+      a .meets ≡ 1 → m < n → (a .swapped ≡ 1) × LowestMeeting qs m ps n (a .outer) (a .inner)
   -- the edges that 9 names share a point, or they are neighbours that fold back (`Why`); of the ring as it is stored
   pub named : (ps : List Float) (n : ℕ) (back : Bool) → FiniteRing ps n back →
       (i j : ℕ) → check-simple ps n back ≡ Edges i j → Why ps n back i j

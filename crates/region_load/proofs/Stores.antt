@@ -2,18 +2,18 @@
 use mathlib.Core.Path.{_≡_, refl}
 use mathlib.Core.Bool.{Bool, true, false, cond}
 use mathlib.Core.List.{List}
-use Prim.Native.Nat.{ℕ, _*_}
+use Prim.Native.Nat.{ℕ, _≤_, _<_}
+use borrow.Author.Tests.{lt-ltb, le-ltb}
 use lib.Dec.{ltb}
 use lib.Ieee.{Float}
 use Rattle.outline.specs.declared.Outline.{Outline}
 use Rattle.region.specs.declared.Region.{Region}
-use Rattle.base.specs.Loop.{rounds}
-use Rattle.ring.specs.Store.{store-step, stored}
 
-pub stored-all : (ps : List Float) (n : ℕ) (back : Bool) (base k : ℕ) (old out : List Float) → base ≡ 32 * k → ltb k 8 ≡ true →
-    out ≡ rounds (store-step ps n back base) n old → out ≡ cond (ltb k 8) (stored ps n back (32 * k) old) old
-unfolding stored
-stored-all ps n back base k old out e h f = rw (h, ← e) f
+pub put-in : (k : ℕ) (x y old : List Float) → k < 8 → x ≡ y → x ≡ cond (ltb k 8) y old
+put-in k x y old l e = rw (lt-ltb k 8 l) e
+
+pub put-out : (k : ℕ) (y old : List Float) → 8 ≤ k → old ≡ cond (ltb k 8) y old
+put-out k y old l = rw (le-ltb k 8 l) refl
 
 -- a hole more, or one past the eighth
 pub hole-more : (b : Bool) (o : Outline) (p q : List Float) (c d : List ℕ) (k : ℕ)

@@ -1,9 +1,9 @@
 // The rings of a region from numbers: question 3, and 4 to 9 ring by ring.
 ghost use mathlib.Core.Path.{_≡_};
 ghost use mathlib.Core.Bool.{true, cond};
-ghost use Prim.Native.Nat.{_*_};
+ghost use Prim.Native.Nat.{_*_, _≤_};
 ghost use lib.Dec.{ltb};
-ghost use lib.ListN.{set};
+ghost use lib.ListN.{length, set};
 ghost use Rattle.ring.specs.Store;
 ghost use Rattle.region.specs.Checks;
 ghost use Rattle.region_load.specs.Loads;
@@ -31,16 +31,13 @@ pub fn lengths_fit<'a>(lengths: &'a [usize], ps: &'a [f64]) -> bool
     (0 < lengths.len()) & (2 * sum == ps.len())
 }
 
-// The numbers of the holes with a ring more, in the place of hole k. One past the eighth is left out.
-pub fn store_hole(ps: &[f64], n: usize, back: bool, k: usize, old: [f64; 512]) -> [f64; 512]
-    ensures { λ r. ⌜ r ≡ cond (ltb k 8) (Store.stored (now (ps .entry)) n back (32 * k) old) old ⌝ }
+// A ring of n vertices, from the vertex `base` of the holes' numbers on. A vertex past the room is left out.
+pub(crate) fn put_ring(ps: &[f64], n: usize, back: bool, base: usize, points: &mut [f64])
+    requires { ⌜ base ≤ 256 ⌝ }
+    requires { ⌜ length (now points) ≡ 512 ⌝ }
+    ensures { λ _. ⌜ now (points .exit) ≡ Store.stored (now (ps .entry)) n back base (now (points .entry)) ⌝ }
 {
-    if 8 <= k {
-        return old;
-    }
-    let base = 32 * k;
     let room = 256 - base;
-    let mut points = old;
     let mut i = 0;
     while i < n {
         let v: PlanarPoint = ring::stored_at(ps, n, back, i);
@@ -52,6 +49,27 @@ pub fn store_hole(ps: &[f64], n: usize, back: bool, k: usize, old: [f64; 512]) -
             points[2 * place + 1] = v.north;
         }
     }
+}
+
+// A ring in the place of hole k, where the numbers lie: they are not copied. One past the eighth is left out.
+pub(crate) fn put_hole(ps: &[f64], n: usize, back: bool, k: usize, points: &mut [f64])
+    requires { ⌜ length (now points) ≡ 512 ⌝ }
+    ensures { λ _. ⌜
+        now (points .exit) ≡ cond (ltb k 8) (Store.stored (now (ps .entry)) n back (32 * k) (now (points .entry)))
+        (now (points .entry))
+        ⌝ }
+{
+    if k < 8 {
+        put_ring(ps, n, back, 32 * k, points);
+    }
+}
+
+// The numbers of the holes with a ring more, in the place of hole k.
+pub fn store_hole(ps: &[f64], n: usize, back: bool, k: usize, old: [f64; 512]) -> [f64; 512]
+    ensures { λ r. ⌜ r ≡ cond (ltb k 8) (Store.stored (now (ps .entry)) n back (32 * k) old) old ⌝ }
+{
+    let mut points = old;
+    put_hole(ps, n, back, k, &mut points);
     points
 }
 
@@ -111,8 +129,7 @@ pub(crate) fn load_holes<'a>(lengths: &'a [usize], ps: &'a [f64], outer: Outline
             let none = outline::store::no_outline();
             return loaded(r, none, [0.0; 512], [0; 8], 0, start);
         }
-        let stored = store_hole(part, c.count, c.back, k, points);
-        points = stored;
+        put_hole(part, c.count, c.back, k, &mut points);
         let counted = store_count(counts, k, c.count);
         counts = counted;
         start += n;

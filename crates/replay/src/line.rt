@@ -79,6 +79,7 @@ fn answered<'a>(kind: u64, answer: &'a [u64], words: &'a [u64], numbers: &'a [f6
         12 => turns::turned(answer, numbers),
         13 => turns::meeting(answer, numbers),
         14 => turns::folded(answer, numbers),
+        15 => shapes::pair(answer, words, numbers),
         _ => false,
     }
 }
@@ -87,7 +88,7 @@ fn answered<'a>(kind: u64, answer: &'a [u64], words: &'a [u64], numbers: &'a [f6
 fn take_fields<'a>(t: Tally, fields: &'a [u64], numbers: &'a [f64], count: usize) -> Tally {
     let kind = parts::field_at(fields, 0);
     let given = parts::field_at(fields, 1) as usize;
-    if 14 < kind {
+    if 15 < kind {
         return t.with(UNREAD, false);
     }
     if ROOM < given {

@@ -1,4 +1,4 @@
-// Replays the reference's answers to questions about outlines, regions and turns, and says how many differ.
+// Replays the reference's answers to questions about outlines, regions, turns and pairs of rings, and says how many differ.
 //
 // A line of standard input has fields of 16 lower-case hexadecimal digits, parted by commas: the kind of question,
 // how many fields of answer follow, the answer, the question.

@@ -90,17 +90,38 @@ pub(crate) fn measures<'a>(answer: &'a [u64], words: &'a [u64], numbers: &'a [f6
         & (answer.len() == 5)
 }
 
-// The numbers of the second shape begin where those of the first end.
+// After the counts of two shapes, the numbers of the first, of n vertices.
+fn first_of(numbers: &[f64], n: usize) -> &[f64] {
+    let both = parts::numbers_from(numbers, 2, numbers.len());
+    parts::numbers_from(both, 0, parts::least(parts::twice(n), both.len()))
+}
+
+// The numbers of the second begin where those of the first end.
+fn second_of(numbers: &[f64], n: usize) -> &[f64] {
+    let both = parts::numbers_from(numbers, 2, numbers.len());
+    parts::numbers_from(both, parts::least(parts::twice(n), both.len()), both.len())
+}
+
 pub(crate) fn clearance<'a>(answer: &'a [u64], words: &'a [u64], numbers: &'a [f64]) -> bool {
     let n = parts::field_at(words, 0) as usize;
     let m = parts::field_at(words, 1) as usize;
-    let both = parts::numbers_from(numbers, 2, numbers.len());
-    let cut = parts::least(parts::twice(n), both.len());
-    let first = parts::numbers_from(both, 0, cut);
-    let second = parts::numbers_from(both, cut, both.len());
-    let gap = outline_sizes::clearance(first, n, second, m);
+    let gap = outline_sizes::clearance(first_of(numbers, n), n, second_of(numbers, n), m);
     let refusal = gap.refusal;
     refusal_is(answer, refusal) & parts::float_is(answer, 1, gap.value) & (answer.len() == 2)
+}
+
+// Whether two shapes meet, the edges of the outer and of the inner walk, whether the second is in the outer walk.
+pub(crate) fn pair<'a>(answer: &'a [u64], words: &'a [u64], numbers: &'a [f64]) -> bool {
+    let n = parts::field_at(words, 0) as usize;
+    let m = parts::field_at(words, 1) as usize;
+    let met = outline_sizes::meeting(first_of(numbers, n), n, second_of(numbers, n), m);
+    let refusal = met.refusal;
+    refusal_is(answer, refusal)
+        & parts::whole_is(answer, 1, base::choose(met.meets, 1, 0))
+        & parts::whole_is(answer, 2, met.outer)
+        & parts::whole_is(answer, 3, met.inner)
+        & parts::whole_is(answer, 4, base::choose(met.swapped, 1, 0))
+        & (answer.len() == 5)
 }
 
 pub(crate) fn edge<'a>(answer: &'a [u64], words: &'a [u64], numbers: &'a [f64]) -> bool {

@@ -1,12 +1,12 @@
 // How many lines were compared and how many differ, by kind.
 use crate::parts;
 
-// The place of lines that cannot be read, after the fifteen kinds. The place after it has all lines.
-pub(crate) const UNREAD: usize = 15;
+// The place of lines that cannot be read, after the sixteen kinds. The place after it has all lines.
+pub(crate) const UNREAD: usize = 16;
 
 pub(crate) struct Tally {
-    pub compared: [u64; 17],
-    pub differ: [u64; 17],
+    pub compared: [u64; 18],
+    pub differ: [u64; 18],
 }
 
 fn one_more(n: u64) -> u64 {
@@ -14,24 +14,24 @@ fn one_more(n: u64) -> u64 {
 }
 
 // One more of a kind, and of all.
-fn counted(counts: [u64; 17], kind: usize) -> [u64; 17] {
+fn counted(counts: [u64; 18], kind: usize) -> [u64; 18] {
     let mut now = counts;
-    if kind < 16 {
+    if kind < 17 {
         now[kind] = one_more(now[kind]);
-        now[16] = one_more(now[16]);
+        now[17] = one_more(now[17]);
     }
     now
 }
 
-fn at(counts: [u64; 17], k: usize) -> u64 {
-    if k < 17 { counts[k] } else { 0 }
+fn at(counts: [u64; 18], k: usize) -> u64 {
+    if k < 18 { counts[k] } else { 0 }
 }
 
 impl Tally {
     pub(crate) fn new() -> Tally {
         Tally {
-            compared: [0; 17],
-            differ: [0; 17],
+            compared: [0; 18],
+            differ: [0; 18],
         }
     }
 
@@ -55,7 +55,7 @@ impl Tally {
         let compared = self.compared;
         let differ = self.differ;
         let mut k = 0usize;
-        while k < 17 {
+        while k < 18 {
             print_name(k);
             print_counts(at(compared, k), at(differ, k));
             k += 1;
@@ -67,12 +67,13 @@ impl Tally {
 fn print_name(kind: usize) {
     let names: &[u8] =
         b"outline  contains nearest  measures clearanceedge     point    area     offset   ";
-    let more: &[u8] = b"region   inset    within   turn     meet     fold     unread   total    ";
+    let more: &[u8] =
+        b"region   inset    within   turn     meet     fold     pair     unread   total    ";
     if kind < 9 {
         io::write_all(1, parts::bytes_from(names, 9 * kind, 9 * kind + 9));
         return;
     }
-    if kind < 17 {
+    if kind < 18 {
         io::write_all(1, parts::bytes_from(more, 9 * kind - 81, 9 * kind - 72));
     }
 }

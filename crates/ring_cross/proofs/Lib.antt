@@ -1,6 +1,12 @@
+pub mod First
+pub mod Walks
+pub mod Frames
+pub mod Listing
 pub mod Pairs
 pub mod Found
 pub mod SimpleExact
 pub mod Examples
-pub mod Meetings
+pub mod MetPairs
+pub mod PairLaws
+pub mod PairExamples
 pub mod MeetExact

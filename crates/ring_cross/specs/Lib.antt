@@ -3,3 +3,7 @@ pub mod SimpleExact
 pub mod Examples
 pub mod Meet
 pub mod MeetExact
+pub mod LeftOut
+pub mod Pair
+pub mod PairLaws
+pub mod PairExamples

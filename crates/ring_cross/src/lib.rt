@@ -3,7 +3,8 @@
 ghost use mathlib.Core.Path.{_≡_};
 ghost use Rattle.ring_cross.specs.Simple;
 ghost use Rattle.ring_cross.specs.Meet;
-use plane::PlanarPoint;
+
+pub mod pair;
 
 // The first two edges of a ring that cross or touch, if any.
 pub enum Crossing {
@@ -56,40 +57,9 @@ pub fn check_simple(ps: &[f64], n: usize, back: bool) -> Crossing
     found
 }
 
-// Whether the segment from a1 to a2 meets an edge of the ring. An edge beside its box is passed over.
-pub(crate) fn meets_edge(qs: &[f64], m: usize, a1: PlanarPoint, a2: PlanarPoint) -> bool
-    ensures { λ r. ⌜ r ≡ Meet.meets-edge (now (qs .entry)) m a1 a2 ⌝ }
-{
-    let low = segment::low(a1, a2);
-    let high = segment::high(a1, a2);
-    let mut b1 = ring::vertex_at(qs, 0);
-    let mut k = 0;
-    while k < m {
-        let b2 = ring::edge_end(qs, m, k);
-        let start = b1;
-        b1 = b2;
-        k += 1;
-        if !segment::passed_over(low, high, start, b2) {
-            if segment::segments_meet(a1, a2, start, b2) {
-                return true;
-            }
-        }
-    }
-    false
-}
-
 // Whether an edge of the first ring meets one of the second.
 pub fn rings_meet<'a>(ps: &'a [f64], n: usize, qs: &'a [f64], m: usize) -> bool
     ensures { λ r. ⌜ r ≡ Meet.rings-meet (now (ps .entry)) n (now (qs .entry)) m ⌝ }
 {
-    let mut k = 0;
-    while k < n {
-        let a1 = ring::vertex_at(ps, k);
-        let a2 = ring::edge_end(ps, n, k);
-        if meets_edge(qs, m, a1, a2) {
-            return true;
-        }
-        k += 1;
-    }
-    false
+    pair::is_met(pair::ring_pair(ps, n, qs, m))
 }

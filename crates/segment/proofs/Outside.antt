@@ -1,85 +1,65 @@
--- Segments whose boxes are apart: no end of the one lies in the other's box, so they meet only where they cross. Assumes nothing.
+-- Segments in boxes apart: no end of the one lies in the other's box, so they meet only where they cross. Assumes nothing.
 use mathlib.Core.Path.{_≡_, refl, sym, _∙_}
 use mathlib.Core.Bool.{Bool, true, false, cond, _&&_, _||_, false≢true}
 use lib.Ieee.{Float, lt, le, eq}
 use Rattle.math.specs.Number.{fmin, fmax}
 use Rattle.plane.specs.declared.PlanarPoint.{PlanarPoint}
 use Rattle.segment.specs.Segments.{within-box}
-use Rattle.segment.specs.Boxes.{greater, lesser, low, high, beside}
-use Rattle.math.proofs.Order.{past, short, under-not-over, one-way, nan-under, under-nan}
+use Rattle.segment.specs.Boxes.{greater, lesser, beside, boxes-apart, Within}
+use Rattle.math.proofs.Order.{past, nan-under, high-too}
 
 -- ---- numbers that lie apart
 
--- both of x lie below both of y
+number-left : (x y : Float) → lt x y ≡ true → eq x x ≡ true
+number-left x y h = go (eq x x) refl
+  where
+    go : (t : Bool) → eq x x ≡ t → eq x x ≡ true
+    go true e = e
+    go false e = absurd (false≢true (sym (nan-under x y e) ∙ h))
+
+-- x is not above a, which is below b, and y is not below b: y is not at most x
+pub not-at-most : (a b x y : Float) → lt a b ≡ true → lt a x ≡ false → lt y b ≡ false → le y x ≡ false
+not-at-most a b x y h f g = go (le y x) refl
+  where
+    go : (t : Bool) → le y x ≡ t → le y x ≡ false
+    go true e = absurd (false≢true (sym (past a b y h g) ∙ high-too x a y (number-left a b h) f e))
+    go false e = e
+
+-- neither y is at most the greater x, and no x is at least the lesser y
 record Below (x1 x2 y1 y2 : Float) : Type 0 where
   first : le y1 (fmax x1 x2) ≡ false
   second : le y2 (fmax x1 x2) ≡ false
   third : le (fmin y1 y2) x1 ≡ false
   fourth : le (fmin y1 y2) x2 ≡ false
 
-least-first : (m y1 y2 : Float) → lt m (fmin y1 y2) ≡ true → le y1 m ≡ false
-unfolding fmin
-least-first m y1 y2 h = go (lt y1 y2) (eq y2 y2) refl h
-  where
-    go : (b c : Bool) → lt y1 y2 ≡ b → lt m (cond b y1 (cond c y2 y1)) ≡ true → le y1 m ≡ false
-    go true c e h = under-not-over m y1 h
-    go false true e h = past m y2 y1 h e
-    go false false e h = under-not-over m y1 h
+module _ (a b x1 x2 y1 y2 : Float) (h : lt a b ≡ true) (e : lt a x1 ≡ false) (f : lt a x2 ≡ false) (g : lt y1 b ≡ false) (k : lt y2 b ≡ false) where
+  most : lt a (fmax x1 x2) ≡ false
+  unfolding fmax
+  most = go (lt x2 x1) (eq x2 x2)
+    where
+      go : (t u : Bool) → lt a (cond t x1 (cond u x2 x1)) ≡ false
+      go true u = e
+      go false true = f
+      go false false = e
 
-least-second : (m y1 y2 : Float) → lt m (fmin y1 y2) ≡ true → le y2 m ≡ false
-unfolding fmin
-least-second m y1 y2 h = go (lt y1 y2) (eq y2 y2) refl refl h
-  where
-    go : (b c : Bool) → lt y1 y2 ≡ b → eq y2 y2 ≡ c → lt m (cond b y1 (cond c y2 y1)) ≡ true → le y2 m ≡ false
-    go true c e d h = past m y1 y2 h (one-way y1 y2 e)
-    go false true e d h = under-not-over m y2 h
-    go false false e d h = past m y1 y2 h (nan-under y2 y1 d)
+  least : lt (fmin y1 y2) b ≡ false
+  unfolding fmin
+  least = go (lt y1 y2) (eq y2 y2)
+    where
+      go : (t u : Bool) → lt (cond t y1 (cond u y2 y1)) b ≡ false
+      go true u = g
+      go false true = k
+      go false false = g
 
-most-first : (m x1 x2 : Float) → lt (fmax x1 x2) m ≡ true → le m x1 ≡ false
-unfolding fmax
-most-first m x1 x2 h = go (lt x2 x1) (eq x2 x2) refl h
-  where
-    go : (b c : Bool) → lt x2 x1 ≡ b → lt (cond b x1 (cond c x2 x1)) m ≡ true → le m x1 ≡ false
-    go true c e h = under-not-over x1 m h
-    go false true e h = short x2 m x1 h e
-    go false false e h = under-not-over x1 m h
+  below : Below x1 x2 y1 y2
+  below = record {
+    first = not-at-most a b (fmax x1 x2) y1 h most g;
+    second = not-at-most a b (fmax x1 x2) y2 h most k;
+    third = not-at-most a b x1 (fmin y1 y2) h e least;
+    fourth = not-at-most a b x2 (fmin y1 y2) h f least;
+  }
 
-most-second : (m x1 x2 : Float) → lt (fmax x1 x2) m ≡ true → le m x2 ≡ false
-unfolding fmax
-most-second m x1 x2 h = go (lt x2 x1) (eq x2 x2) refl refl h
-  where
-    go : (b c : Bool) → lt x2 x1 ≡ b → eq x2 x2 ≡ c → lt (cond b x1 (cond c x2 x1)) m ≡ true → le m x2 ≡ false
-    go true c e d h = short x1 m x2 h (one-way x2 x1 e)
-    go false true e d h = under-not-over x2 m h
-    go false false e d h = short x1 m x2 h (under-nan x1 x2 d)
-
-below : (x1 x2 y1 y2 : Float) → lt (fmax x1 x2) (fmin y1 y2) ≡ true → Below x1 x2 y1 y2
-below x1 x2 y1 y2 h = record {
-  first = least-first (fmax x1 x2) y1 y2 h;
-  second = least-second (fmax x1 x2) y1 y2 h;
-  third = most-first (fmin y1 y2) x1 x2 h;
-  fourth = most-second (fmin y1 y2) x1 x2 h;
-}
-
-greater-is : (x y w : Float) → lt (greater x y) w ≡ true → lt (fmax x y) w ≡ true
-unfolding greater fmax
-greater-is x y w h = go (lt y x) (eq y y) refl h
-  where
-    go : (b c : Bool) → eq y y ≡ c → lt (cond b x y) w ≡ true → lt (cond b x (cond c y x)) w ≡ true
-    go true c e h = h
-    go false true e h = h
-    go false false e h = absurd (false≢true (sym (nan-under y w e) ∙ h))
-
-lesser-is : (x y w : Float) → lt w (lesser x y) ≡ true → lt w (fmin x y) ≡ true
-unfolding lesser fmin
-lesser-is x y w h = go (lt x y) (eq y y) refl h
-  where
-    go : (b c : Bool) → eq y y ≡ c → lt w (cond b x y) ≡ true → lt w (cond b x (cond c y x)) ≡ true
-    go true c e h = h
-    go false true e h = h
-    go false false e h = absurd (false≢true (sym (under-nan w y e) ∙ h))
-
--- ---- boxes that lie apart
+-- ---- boxes
 
 no-1 : (a b c d : Bool) → a ≡ false → (a && (b && (c && d))) ≡ false
 no-1 a b c d e = rw e refl
@@ -136,19 +116,19 @@ module _ (a1 a2 b1 b2 : PlanarPoint) where
   north : Below (a1 .north) (a2 .north) (b1 .north) (b2 .north) → Outside a1 a2 b1 b2
   north o = record { first = south-of b1 b2 a1 (o .third); second = south-of b1 b2 a2 (o .fourth); third = north-of a1 a2 b1 (o .first); fourth = north-of a1 a2 b2 (o .second) }
 
-  pub outside : beside (low a1 a2) (high a1 a2) b1 b2 ≡ true → Outside a1 a2 b1 b2
-  unfolding beside low high
-  outside h = go _ _ _ _ refl refl refl refl h
-    where
-      go :
-          (p q r s : Bool) → lt (greater (b1 .east) (b2 .east)) (lesser (a1 .east) (a2 .east)) ≡ p → lt (greater (a1 .east) (a2 .east)) (lesser (b1 .east) (b2 .east)) ≡ q →
-          lt (greater (b1 .north) (b2 .north)) (lesser (a1 .north) (a2 .north)) ≡ r → lt (greater (a1 .north) (a2 .north)) (lesser (b1 .north) (b2 .north)) ≡ s →
-          (p || (q || (r || s))) ≡ true → Outside a1 a2 b1 b2
-      go true q r s e f g k h = west (below _ _ _ _ (greater-is _ _ _ (lesser-is _ _ _ e)))
-      go false true r s e f g k h = east (below _ _ _ _ (greater-is _ _ _ (lesser-is _ _ _ f)))
-      go false false true s e f g k h = south (below _ _ _ _ (greater-is _ _ _ (lesser-is _ _ _ g)))
-      go false false false true e f g k h = north (below _ _ _ _ (greater-is _ _ _ (lesser-is _ _ _ k)))
-      go false false false false e f g k h = absurd (false≢true h)
+  module _ (l h l2 h2 : PlanarPoint) (e : Within l h a1) (f : Within l h a2) (g : Within l2 h2 b1) (k : Within l2 h2 b2) where
+    pub outside : boxes-apart l h l2 h2 ≡ true → Outside a1 a2 b1 b2
+    unfolding boxes-apart
+    outside t = go _ _ _ _ refl refl refl refl t
+      where
+        go :
+            (p q r s : Bool) → lt (h2 .east) (l .east) ≡ p → lt (h .east) (l2 .east) ≡ q → lt (h2 .north) (l .north) ≡ r →
+            lt (h .north) (l2 .north) ≡ s → (p || (q || (r || s))) ≡ true → Outside a1 a2 b1 b2
+        go true q r s w x y z t = west (below _ _ _ _ _ _ w (g .east) (k .east) (e .west) (f .west))
+        go false true r s w x y z t = east (below _ _ _ _ _ _ x (e .east) (f .east) (g .west) (k .west))
+        go false false true s w x y z t = south (below _ _ _ _ _ _ y (g .north) (k .north) (e .south) (f .south))
+        go false false false true w x y z t = north (below _ _ _ _ _ _ z (e .north) (f .north) (g .south) (k .south))
+        go false false false false w x y z t = absurd (false≢true t)
 
 -- ---- what the code asks
 

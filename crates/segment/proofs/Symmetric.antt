@@ -22,7 +22,7 @@ exchanged p1 p2 q1 q2 =
     pairs-turned (apart (turn p1 p2 q1) (turn p1 p2 q2)) (apart (turn q1 q2 p1) (turn q1 q2 p2))
     (touches (turn p1 p2 q1) p1 p2 q1) (touches (turn p1 p2 q2) p1 p2 q2) (touches (turn q1 q2 p1) q1 q2 p1) (touches (turn q1 q2 p2) q1 q2 p2)
 
-alike : (x y : Bool) → (x ≡ true → y ≡ true) → (y ≡ true → x ≡ true) → x ≡ y
+pub alike : (x y : Bool) → (x ≡ true → y ≡ true) → (y ≡ true → x ≡ true) → x ≡ y
 alike true y f g = sym (f refl)
 alike false true f g = g refl
 alike false false f g = refl

@@ -151,10 +151,17 @@ pub(crate) fn beside(l: PlanarPoint, h: PlanarPoint, p: PlanarPoint, q: PlanarPo
     h.north < math::choose(p.north < q.north, p.north, q.north)
 }
 
-// Whether the segment from p to q is passed over: it lies beside the box from l to h, so a segment that has this box does not meet it.
+// Whether the segment from p to q is passed over: it lies beside the box from l to h, so no segment in the box meets it.
 pub fn passed_over(l: PlanarPoint, h: PlanarPoint, p: PlanarPoint, q: PlanarPoint) -> bool
     ensures { λ r. ⌜ r ≡ Boxes.beside l h p q ⌝ }
     ensures { λ r. ⌜ Boxes.PassedOver r l h p q ⌝ }
 {
     beside(l, h, p, q)
+}
+
+// Whether the box from l2 to h2 lies beside the one from l to h.
+pub fn boxes_apart(l: PlanarPoint, h: PlanarPoint, l2: PlanarPoint, h2: PlanarPoint) -> bool
+    ensures { λ r. ⌜ r ≡ Boxes.boxes-apart l h l2 h2 ⌝ }
+{
+    (h2.east < l.east) | ((h.east < l2.east) | ((h2.north < l.north) | (h.north < l2.north)))
 }

@@ -1,6 +1,6 @@
 -- What the functions for C answer: a refusal's number and what it carries as plain numbers, beside the value. Assumes nothing.
 use Prim.Native.Nat.{ℕ, _/_, _%_}
-use mathlib.Core.Bool.{cond}
+use mathlib.Core.Bool.{Bool, cond}
 use mathlib.Core.List.{List}
 use lib.Dec.{eqb}
 use lib.Ieee.{Float}
@@ -15,6 +15,7 @@ use Rattle.told.specs.declared.LwPlace.{LwPlace}
 use Rattle.told.specs.declared.LwNearest.{LwNearest}
 use Rattle.told.specs.declared.LwArea.{LwArea}
 use Rattle.told.specs.declared.LwLength.{LwLength}
+use Rattle.told.specs.declared.LwMeeting.{LwMeeting}
 use Rattle.told.specs.declared.LwPoint.{LwPoint}
 use Rattle.told.specs.declared.LwEdge.{LwEdge}
 use Rattle.told.specs.declared.LwOffset.{LwOffset}
@@ -49,6 +50,10 @@ area-answer c x = record { refusal = c .question; area = x }
 
 unfoldable pub length-answer : Carried → Float → LwLength
 length-answer c x = record { refusal = c .question; length = x }
+
+unfoldable pub meeting-answer : Carried → Bool → ℕ → ℕ → Bool → LwMeeting
+meeting-answer c meets outer inner swapped =
+    record { refusal = c .question; meets = cond meets 1 0; outer = outer; inner = inner; swapped = cond swapped 1 0 }
 
 unfoldable pub point-answer : Carried → PlanarPoint → LwPoint
 point-answer c p = record { refusal = c .question; east = p .east; north = p .north }
@@ -115,6 +120,6 @@ line-answer u c n = record { refusal = c .question; count = cond (granted u) n (
 
 -- opens every definition above, for a proof that computes with all of them
 unfoldable pub open-told : Unit {0}
-unfolding vertices outline-answer place-number place-answer nearest-answer area-answer length-answer point-answer edge-answer
-    offset-answer region-answer inset-answer line-answer
+unfolding vertices outline-answer place-number place-answer nearest-answer area-answer length-answer meeting-answer point-answer
+    edge-answer offset-answer region-answer inset-answer line-answer
 open-told = tt

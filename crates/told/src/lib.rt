@@ -50,6 +50,17 @@ pub struct LwLength {
     pub length: f64,
 }
 
+// Whether two outlines meet, 1 or 0, and by which edges: the outer walk's, then the inner walk's. `swapped` is 1 where the second outline
+// is in the outer walk.
+#[repr(C)]
+pub struct LwMeeting {
+    pub refusal: usize,
+    pub meets: usize,
+    pub outer: usize,
+    pub inner: usize,
+    pub swapped: usize,
+}
+
 // A point.
 #[repr(C)]
 pub struct LwPoint {
@@ -190,6 +201,25 @@ pub fn length(refusal: Refusal, value: f64) -> LwLength
     LwLength {
         refusal: c.question,
         length: value,
+    }
+}
+
+pub fn meeting(
+    refusal: Refusal,
+    meets: bool,
+    outer: usize,
+    inner: usize,
+    swapped: bool,
+) -> LwMeeting
+    ensures { λ r. ⌜ r ≡ Told.meeting-answer (Carries.carried refusal) meets outer inner swapped ⌝ }
+{
+    let c = Carried::new(refusal);
+    LwMeeting {
+        refusal: c.question,
+        meets: base::choose(meets, 1, 0),
+        outer: outer,
+        inner: inner,
+        swapped: base::choose(swapped, 1, 0),
     }
 }
 

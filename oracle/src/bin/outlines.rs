@@ -1,15 +1,16 @@
-//! Questions about outlines, regions or points from a seed, each with the
-//! reference's answer.
+//! Questions about outlines, regions, points or pairs of rings from a seed, each
+//! with the reference's answer.
 //!
-//! `outlines SEED COUNT [--offsets | --regions | --turns] [--tally]`
+//! `outlines SEED COUNT [--offsets | --regions | --turns | --pairs] [--tally]`
 
 use std::io::{self, BufWriter, Write};
 use std::process::ExitCode;
 
-use oracle::generate::{offset, question, region, turning};
+use oracle::generate::{offset, pair, question, region, turning};
 use oracle::outlines::{Question, Tally};
 
-const USAGE: &str = "usage: outlines SEED COUNT [--offsets | --regions | --turns] [--tally]";
+const USAGE: &str =
+    "usage: outlines SEED COUNT [--offsets | --regions | --turns | --pairs] [--tally]";
 
 struct Load {
     seed: u64,
@@ -27,6 +28,7 @@ fn load() -> Option<Load> {
             "--offsets" => draw = offset,
             "--regions" => draw = region,
             "--turns" => draw = turning,
+            "--pairs" => draw = pair,
             "--tally" => tally = true,
             _ => numbers.push(word.parse().ok()?),
         }

@@ -5,6 +5,7 @@ mod door;
 mod known;
 mod offsets;
 mod outlines;
+mod pair_questions;
 mod questions;
 mod rare;
 mod region_questions;
@@ -14,6 +15,7 @@ mod slivers;
 mod turn_questions;
 
 pub use offsets::offset;
+pub use pair_questions::pair;
 pub use questions::question;
 pub use region_questions::region;
 pub use turn_questions::turning;

@@ -22,7 +22,7 @@ pub(super) fn not_finite(draw: &mut Draw) -> f64 {
     ])
 }
 
-fn flat_numbers(ring: &[Point]) -> Vec<f64> {
+pub(super) fn flat_numbers(ring: &[Point]) -> Vec<f64> {
     ring.iter().flatten().copied().collect()
 }
 
@@ -506,7 +506,8 @@ fn second(draw: &mut Draw, first: &Shape) -> Shape {
     shape_of(sound(draw))
 }
 
-fn clearance(draw: &mut Draw) -> Question {
+/// Two shapes, now and then one that question 21 refuses.
+pub(super) fn two_shapes(draw: &mut Draw) -> (Shape, Shape) {
     let first = if draw.once_in(12) {
         improper(draw)
     } else {
@@ -515,7 +516,7 @@ fn clearance(draw: &mut Draw) -> Question {
     let cut = usize::try_from(first.count).map_or(usize::MAX, |n| n.saturating_mul(2));
     // The numbers of the second begin where those of the first end.
     if first.numbers.len() != cut {
-        return Question::Clearance(first, shape_of(Vec::new()));
+        return (first, shape_of(Vec::new()));
     }
     let second = if draw.once_in(12) {
         improper(draw)
@@ -524,7 +525,7 @@ fn clearance(draw: &mut Draw) -> Question {
     } else {
         second(draw, &first)
     };
-    Question::Clearance(first, second)
+    (first, second)
 }
 
 /// A number of any size and sign.
@@ -586,7 +587,10 @@ pub fn question(seed: u64, index: u64) -> Question {
             Question::Nearest(shape, point)
         }
         29..=31 => Question::Measures(handed(draw)),
-        32..=34 => clearance(draw),
+        32..=34 => {
+            let (first, second) = two_shapes(draw);
+            Question::Clearance(first, second)
+        }
         35 => edge(draw),
         36..=37 => {
             let mut number = || any_number(draw);

@@ -5,7 +5,8 @@ use native.Mathlib.Omega.{arith}
 use mathlib.Core.Path.{_≡_, sym, _∙_}
 use mathlib.Core.Bool.{true}
 use borrow.Author.Tests.{not-true, not-false}
-use lib.ListN.{length}
+use lib.ListN.{length, length-replicate}
+use Rattle.math.specs.Number.{zero-float}
 use Rattle.error.specs.declared.Refusal.the-variants.{Granted}
 use Rattle.region.specs.Checks.{lengths-fit}
 use Rattle.region.proofs.LengthsFit.{some-ring}
@@ -19,7 +20,7 @@ use Rattle.region_load.proofs.load_holes.Tie as tie
 abbrev Inv-loop : tie.InvT-loop
 Inv-loop lengths ps outer points₀ counts₀ start₀ last k₀ points counts start k =
     (k ≤ last) × (last ≡ length lengths - 1) × (lengths-fit lengths ps ≡ true) × (start ≡ sum-of lengths (k + 1)) × (2 * start ≤ length ps) ×
-    (loading lengths ps outer k ≡ Loads.loaded Granted outer points counts k start)
+    (length points ≡ 512) × (loading lengths ps outer k ≡ Loads.loaded Granted outer points counts k start)
 
 abbrev μ-loop : tie.MeasureT-loop
 μ-loop lengths ps outer points₀ counts₀ start₀ last k₀ points counts start k = last - k
@@ -40,6 +41,7 @@ loop-holds c =
       fit,
       first,
       there _ _ fit 1 _ (some-ring _ _ fit) first,
+      length-replicate 512 zero-float,
       none-loaded _ _ _ _ count-at-gives,
     )
 
@@ -89,21 +91,25 @@ returns c =
     let loop = c .before .before .before .before .before .before .before .before .loop in
     let refused = sym granted-gives ∙ not-true _ yes1 in
     c .loaded .ensures ∙
-    ring-refused _ _ _ _ _ _ _ (loop .inv .5) _ count-at2-gives _
+    ring-refused _ _ _ _ _ _ _ (loop .inv .6) _ count-at2-gives _
     (part-from (args .ps .now) (2 * loop .start)) _ check-ring-gives _
     no-outline-gives (omega (arith, loop .inv .1, going)) refused
 
-store-hole-requires : tie.Need-store-hole-requires Inv-loop μ-loop
-store-hole-requires c κs = search needs
+slice-aggregate-put-hole : tie.Need-slice-aggregate-put-hole Inv-loop μ-loop
+slice-aggregate-put-hole c = search needs
+
+put-hole-requires : tie.Need-put-hole-requires Inv-loop μ-loop
+put-hole-requires c κs = search needs
 
 store-count-requires : tie.Need-store-count-requires Inv-loop μ-loop
 store-count-requires c κs = search needs
 
 add-start : tie.Need-add-start Inv-loop μ-loop
 add-start c =
-    let inv = c .before .before .before .before .before .before .before .before .loop .inv in
-    let going = c .before .before .before .before .before .before .before .loop-test .taken in
-    let count-at2-gives = c .before .before .before .before .before .before .count-at2 .ensures in
+    let at = c .before .before .before .before .before .before .before .before in
+    let inv = at .before .before .loop .inv in
+    let going = at .before .loop-test .taken in
+    let count-at2-gives = at .count-at2 .ensures in
     let more = next-there _ _ (inv .2) _ _ _ (omega (arith, inv .1, going)) (inv .3) count-at2-gives in
     search (needs, more)
 
@@ -113,22 +119,23 @@ loop-less c = search needs
 loop-again : tie.Need-loop-again Inv-loop μ-loop
 loop-again c =
     let c8 = c .before .before .before .before .before .before .before .before in
-    let inv = c8 .loop .inv in
-    let args = c8 .before .before .before .before .before .args in
-    let loop-start = c8 .loop .start in
-    let check-ring-gives = c .before .before .before .before .check-ring .ensures in
-    let granted-gives = c .before .before .before .granted .ensures in
-    let no1 = c .before .before .if1 .left in
-    let store-hole-gives = c .before .store-hole .ensures in
-    let n = c .before .before .before .before .before .before .count-at2 .ensures in
-    let within = c .before .before .before .before .before .before .before .loop-test .taken in (
+    let inv = c8 .before .before .loop .inv in
+    let args = c8 .before .before .before .before .before .before .before .args in
+    let loop-start = c8 .before .before .loop .start in
+    let check-ring-gives = c .before .before .before .before .before .before .check-ring .ensures in
+    let granted-gives = c .before .before .before .before .before .granted .ensures in
+    let no1 = c .before .before .before .before .if1 .left in
+    let put-hole-gives = c .before .before .put-hole .ensures in
+    let n = c8 .count-at2 .ensures in
+    let within = c8 .before .loop-test .taken in (
       search needs,
       inv .1,
       inv .2,
       next-ring _ _ _ _ (inv .3) n,
       next-there _ _ (inv .2) _ _ _ (omega (arith, inv .1, within)) (inv .3) n,
-      ring-loaded _ _ _ _ _ _ _ (inv .5) _ n _ (part-from (args .ps .now) (2 * loop-start)) _ check-ring-gives _ _
-          (sym granted-gives ∙ not-false _ no1) store-hole-gives (c .store-count .ensures),
+      search needs,
+      ring-loaded _ _ _ _ _ _ _ (inv .6) _ n _ (part-from (args .ps .now) (2 * loop-start)) _ check-ring-gives _ _
+          (sym granted-gives ∙ not-false _ no1) put-hole-gives (c .store-count .ensures),
     )
 
 loaded-requires-2 : tie.Need-loaded-requires-2 Inv-loop μ-loop
@@ -139,7 +146,7 @@ returns-2 c =
     let inv = c .before .before .loop .inv in
     let ended = c .before .loop-test .left in
     c .loaded2 .ensures ∙
-    all-loaded _ _ _ _ _ _ _ (inv .5) (omega (arith, inv .0, inv .1)) (omega (arith, ended, inv .1))
+    all-loaded _ _ _ _ _ _ _ (inv .6) (omega (arith, inv .0, inv .1)) (omega (arith, ended, inv .1))
 
 pub load-holes-spec : {M : Type 1} → statement M
 load-holes-spec =
@@ -162,7 +169,8 @@ load-holes-spec =
     no-outline-requires
     loaded-requires
     returns
-    store-hole-requires
+    slice-aggregate-put-hole
+    put-hole-requires
     store-count-requires
     add-start
     loop-less

@@ -6,6 +6,7 @@ use Rattle.base.proofs.Laws.{no-round}
 use Rattle.ring_cross.specs.declared.Crossing.the-variants.{Simple}
 use Rattle.ring_cross.specs.Simple.{edge-step}
 use Rattle.ring_cross.proofs.Pairs.{Row, read-at, bound, row-begins, row-goes-on, row-closes, row-ends, row-none, none-found, found-next, found-far, found-last}
+use Rattle.segment.proofs.Apart.{over-own}
 use borrow.Author.Needs.{needs}
 use borrow.Author.Tests.{not-false}
 use Rattle.ring_cross.proofs.check_simple.Statement.{statement}
@@ -132,7 +133,7 @@ loop-again-2 c =
     let at = c .before in
     let v = at .before .before .before .before .loop .inv in
     let b2 = read-at _ _ _ (at .before .stored-at4 .ensures) (at .before .before .following3 .ensures) in
-    let none = at .passed-over .ensures .1 (not-false _ (c .if3 .left)) _ _ (v .5 .first) (v .5 .second) (v .5 .least) (v .5 .most) in
+    let none = over-own _ _ _ _ _ (at .passed-over .ensures .1) (not-false _ (c .if3 .left)) _ _ (v .5 .first) (v .5 .second) (v .5 .least) (v .5 .most) in
     let r = row-goes-on _ _ _ _ _ _ _ _ _ _ _ (v .5) _ _ (at .before .before .before .loop-test .taken) b2 refl none in
     (v .0, v .1, r .within, v .3, v .4, r)
 

@@ -1,25 +1,26 @@
--- `ring_cross::meets_edge` meets its contract. Assumes nothing.
+-- `ring_cross::pair::first_from` meets its contract. Assumes nothing.
 use borrow.Author.Needs.{needs}
 use borrow.Author.Tests.{not-false}
-use Prim.Native.Nat.{ℕ, _-_, _≤_}
-use mathlib.Core.Path.{_≡_, refl, sym, _∙_}
-use mathlib.Core.Bool.{false}
+use Prim.Native.Nat.{_-_, _≤_, _<_}
+use mathlib.Core.Path.{_≡_, refl, sym}
 use Rattle.base.specs.Loop.{rounds}
-use Rattle.base.proofs.Laws.{no-round}
 use Rattle.turn.specs.Turns.{DoublePoint}
 use Rattle.segment.specs.Boxes
-use Rattle.ring.proofs.Starts.{start, start-first, start-next, start-edge}
-use Rattle.ring_cross.specs.Meet.{meet-step}
-use Rattle.ring_cross.proofs.Meetings.{pair-met, met-at, not-met, none-met}
-use Rattle.ring_cross.proofs.meets_edge.Statement.{statement}
-use Rattle.ring_cross.proofs.meets_edge.Tie as tie
+use Rattle.segment.proofs.Apart.{over-own}
+use Rattle.ring.specs.Ring.{vertex-at}
+use Rattle.ring_cross.specs.declared.pair.Meeting.the-variants.{Apart}
+use Rattle.ring_cross.specs.Pair.{edge-step}
+use Rattle.ring_cross.proofs.Walks.{next-start, told-meets, edge-none, pair-found, pair-none}
+use Rattle.ring_cross.proofs.pair.first_from.Statement.{statement}
+use Rattle.ring_cross.proofs.pair.first_from.Tie as tie
 
 abbrev Inv-loop : tie.InvT-loop
-Inv-loop qs m a1 a2 low high b1₀ k₀ b1 k =
-    (k ≤ m) × (low ≡ Boxes.low a1 a2) × (high ≡ Boxes.high a1 a2) × (b1 ≡ start qs m k) × (rounds (meet-step qs m a1 a2) k false ≡ false) × DoublePoint a1 × DoublePoint a2
+Inv-loop qs m start i a1 a2 low high b1₀ k₀ b1 k =
+    (k ≤ m) × (low ≡ Boxes.low a1 a2) × (high ≡ Boxes.high a1 a2) × (k < m → b1 ≡ vertex-at qs k) ×
+    (rounds (edge-step qs m i a1 a2) k Apart ≡ Apart) × DoublePoint a1 × DoublePoint a2
 
 abbrev μ-loop : tie.MeasureT-loop
-μ-loop qs m a1 a2 low high b1₀ k₀ b1 k = m - k
+μ-loop qs m start i a1 a2 low high b1₀ k₀ b1 k = m - k
 
 low-requires : tie.Need-low-requires Inv-loop μ-loop
 low-requires c κs = search needs
@@ -33,7 +34,7 @@ vertex-at-requires c κs = search needs
 loop-holds : tie.Need-loop-holds Inv-loop μ-loop
 loop-holds c =
     let l = c .before .before .low .ensures in
-    (search needs, l .0, c .before .high .ensures, c .vertex-at .ensures ∙ start-first _ _, no-round _ _, l .1 .0, l .1 .1)
+    (search needs, l .0, c .before .high .ensures, λ u. c .vertex-at .ensures, search needs, l .1 .0, l .1 .1)
 
 edge-end-requires : tie.Need-edge-end-requires Inv-loop μ-loop
 edge-end-requires c κs = search needs
@@ -49,13 +50,10 @@ segments-meet-requires c κs = search needs
 
 returns : tie.Need-returns Inv-loop μ-loop
 returns c =
-    let edge-end-gives = c .before .before .before .before .edge-end .ensures in
-    let segments-meet-gives = c .before .segments-meet .ensures in
     let v = c .before .before .before .before .before .before .loop .inv in
     let t = c .before .before .before .before .before .loop-test .taken in
-    sym
-    (met-at _ _ _ _ _ t
-    (pair-met _ _ _ _ _ _ _ (v .3 ∙ start-edge _ _ _ t) edge-end-gives segments-meet-gives (c .if2 .taken)))
+    let e = c .before .before .before .before .edge-end .ensures in
+    sym (pair-found _ _ _ _ _ _ t (v .4) (told-meets _ _ _ _ _ (v .3 t) e (c .before .segments-meet .ensures) (c .if2 .taken)))
 
 loop-less : tie.Need-loop-less Inv-loop μ-loop
 loop-less c = search needs
@@ -64,15 +62,9 @@ loop-again : tie.Need-loop-again Inv-loop μ-loop
 loop-again c =
     let v = c .before .before .before .before .before .before .loop .inv in
     let t = c .before .before .before .before .before .loop-test .taken in
-    let e = c .before .before .before .before .edge-end .ensures in (
-      search needs,
-      v .1,
-      v .2,
-      e ∙ start-next _ _ _,
-      not-met _ _ _ _ _ (v .4) (pair-met _ _ _ _ _ _ _ (v .3 ∙ start-edge _ _ _ t) e (c .before .segments-meet .ensures) (c .if2 .left)),
-      v .5,
-      v .6,
-    )
+    let e = c .before .before .before .before .edge-end .ensures in
+    let none = told-meets _ _ _ _ _ (v .3 t) e (c .before .segments-meet .ensures) (c .if2 .left) in
+    (search needs, v .1, v .2, next-start _ _ _ _ e, edge-none _ _ _ _ _ _ (v .4) none, v .5, v .6)
 
 loop-less-2 : tie.Need-loop-less-2 Inv-loop μ-loop
 loop-less-2 c = search needs
@@ -83,21 +75,14 @@ loop-again-2 c =
     let v = c .before .before .before .before .loop .inv in
     let t = c .before .before .before .loop-test .taken in
     let e = c .before .before .edge-end .ensures in
-    let none = c .before .passed-over .ensures .1 (not-false _ (c .if1 .left)) _ _ (v .5) (v .6) (v .1) (v .2) in (
-      search needs,
-      v .1,
-      v .2,
-      e ∙ start-next _ _ _,
-      not-met _ _ _ _ _ (v .4) (pair-met _ _ _ _ _ _ _ (v .3 ∙ start-edge _ _ _ t) e refl none),
-      v .5,
-      v .6,
-    )
+    let over = over-own _ _ _ _ _ (c .before .passed-over .ensures .1) (not-false _ (c .if1 .left)) _ _ (v .5) (v .6) (v .1) (v .2) in
+    (search needs, v .1, v .2, next-start _ _ _ _ e, edge-none _ _ _ _ _ _ (v .4) (told-meets _ _ _ _ _ (v .3 t) e refl over), v .5, v .6)
 
 returns-2 : tie.Need-returns-2 Inv-loop μ-loop
-returns-2 c = sym (none-met _ _ _ _ _ (c .before .loop .inv .0) (c .loop-test .left) (c .before .loop .inv .4))
+returns-2 c = let v = c .before .loop .inv in sym (pair-none _ _ _ _ _ _ (v .0) (c .loop-test .left) (v .4))
 
-pub meets-edge-spec : {M : Type 1} → statement M
-meets-edge-spec =
+pub first-from-spec : {M : Type 1} → statement M
+first-from-spec =
     tie.close
     (tie.spec
     Inv-loop
