@@ -213,6 +213,114 @@ static void clearance(void)
     }
 }
 
+/* Whether edges meet, and which, worked out by a plain walk: of small whole numbers, where nothing is rounded. */
+static double turn(const double *a, const double *b, const double *c)
+{
+    return (b[0] - a[0]) * (c[1] - a[1]) - (b[1] - a[1]) * (c[0] - a[0]);
+}
+
+static int on_edge(const double *a, const double *b, const double *p)
+{
+    int beside = fmax(a[0], b[0]) < p[0] || p[0] < fmin(a[0], b[0]) || fmax(a[1], b[1]) < p[1] || p[1] < fmin(a[1], b[1]);
+    return turn(a, b, p) == 0 && !beside;
+}
+
+static int edges_meet(const double *a, const double *b, const double *c, const double *d)
+{
+    int across = turn(a, b, c) * turn(a, b, d) < 0 && turn(c, d, a) * turn(c, d, b) < 0;
+    return across || on_edge(a, b, c) || on_edge(a, b, d) || on_edge(c, d, a) || on_edge(c, d, b);
+}
+
+/* What is due of o vertices in the outer walk and n in the inner one. */
+static LwMeeting edge_after_edge(const double *outer, size_t o, const double *inner, size_t n, size_t swapped)
+{
+    for (size_t j = 0; j < o; j++)
+        for (size_t k = 0; k < n; k++)
+            if (edges_meet(outer + 2 * j, outer + 2 * ((j + 1) % o), inner + 2 * k, inner + 2 * ((k + 1) % n)))
+                return (LwMeeting){.meets = 1, .outer = j, .inner = k, .swapped = swapped};
+    return (LwMeeting){0};
+}
+
+/* Draws so many vertices of whole numbers below 10, moved: two such rings cross, touch or are apart. */
+static void draw(double *ring, size_t vertices, double moved)
+{
+    static uint32_t state = 3;
+    for (size_t k = 0; k < 2 * vertices; k++) {
+        state = state * 1103515245 + 12345;
+        ring[k] = (double)((state >> 16) % 10) + moved;
+    }
+}
+
+/* Of drawn rings no answer differs from the plain walk's, and each kind of answer came. */
+static void drawn_meetings(void)
+{
+    size_t differ = 0, apart = 0, swapped = 0, outer = 0, inner = 0;
+    for (size_t round = 0; round < 20000; round++) {
+        double first[16], second[16];
+        size_t n = 3 + round % 6, m = 3 + round / 6 % 6;
+        draw(first, n, 0);
+        draw(second, m, (double)(round % 11));
+        LwMeeting got = lw_meeting(first, 2 * n, second, 2 * m);
+        LwMeeting due = m < n ? edge_after_edge(second, m, first, n, 1) : edge_after_edge(first, n, second, m, 0);
+        differ += memcmp(&got, &due, sizeof got) != 0;
+        apart += !due.meets, swapped += due.swapped, outer += due.outer > 0, inner += due.inner > 0;
+    }
+    CHECK(differ == 0);
+    CHECK(apart > 2000 && swapped > 2000 && outer > 2000 && inner > 2000);
+}
+
+/* Which edges of the square and of an outline meet: the square named first, and the outline named first. */
+static void meets_square(const double *numbers, size_t count, LwMeeting square_first, LwMeeting square_second)
+{
+    LwMeeting a = lw_meeting(square, COUNT(square), numbers, count), b = lw_meeting(numbers, count, square, COUNT(square));
+    CHECK(memcmp(&a, &square_first, sizeof a) == 0);
+    CHECK(memcmp(&b, &square_second, sizeof b) == 0);
+}
+#define MEET(j, k, s) ((LwMeeting){.meets = 1, .outer = (j), .inner = (k), .swapped = (s)})
+#define APART ((LwMeeting){0})
+
+static void meeting(void)
+{
+    static const double triangle[] = {3, 3, 6, 3, 6, 6}, closing[] = {5, 2, 9, 9, 2, 5};
+    /* Edge 0 meets the square's edge 3 alone; the square's edge 1 meets the edges 2 and 3. */
+    static const double hook[] = {2, 1, -2, 1, -2, 3, 6, 3}, longer[] = {2, 1, -2, 1, -2, 3, 6, 3, 7, 2};
+    static const double corner[] = {4, 4, 9, 4, 9, 9}, tip[] = {9, 4, 4, 2, 9, 0}, dot[] = {2, 4, 2, 4, 2, 4};
+    static const double below[] = {3, -2, 1, -2, 1, 0, 3, 0}, across[] = {-1, 1, 5, 1, 5, 2, -1, 2};
+    static const double beyond[] = {6, 0, 8, 0, 8, 4, 6, 4}, within[] = {1, 1, 3, 1, 3, 3, 1, 3}, inner[] = {1, 1, 3, 1, 2, 3};
+    static const double at_end[] = {-3, 5, 0, 6, -3, 7};
+    /* Fewer vertices: in the outer walk, wherever it is named. */
+    meets_square(triangle, COUNT(triangle), MEET(0, 1, 1), MEET(0, 1, 0));
+    meets_square(closing, COUNT(closing), MEET(2, 1, 1), MEET(2, 1, 0));
+    meets_square(longer, COUNT(longer), MEET(1, 2, 0), MEET(1, 2, 1));
+    /* As many: the first is in the outer walk. */
+    meets_square(hook, COUNT(hook), MEET(1, 2, 0), MEET(0, 3, 0));
+    meets_square(square, COUNT(square), MEET(0, 0, 0), MEET(0, 0, 0));
+    /* They touch: at a corner of both, at one of the other, at the whole other, along an edge. */
+    meets_square(corner, COUNT(corner), MEET(0, 1, 1), MEET(0, 1, 0));
+    meets_square(tip, COUNT(tip), MEET(0, 1, 1), MEET(0, 1, 0));
+    meets_square(dot, COUNT(dot), MEET(0, 2, 1), MEET(0, 2, 0));
+    meets_square(below, COUNT(below), MEET(0, 1, 0), MEET(1, 0, 0));
+    /* They do not: beside one another, or one inside the other, also where the second has fewer vertices. */
+    meets_square(beyond, COUNT(beyond), APART, APART);
+    meets_square(within, COUNT(within), APART, APART);
+    meets_square(inner, COUNT(inner), APART, APART);
+    /* As they are handed in: a ring that runs clockwise, and a closing repeat, which counts. */
+    GIVES(LwMeeting, lw_meeting(clockwise, COUNT(clockwise), triangle, COUNT(triangle)), .meets = 1, .inner = 2, .swapped = 1);
+    GIVES(LwMeeting, lw_meeting(square, COUNT(square), across, COUNT(across)), .meets = 1, .outer = 1);
+    GIVES(LwMeeting, lw_meeting(closed, COUNT(closed), across, COUNT(across)), .meets = 1, .inner = 1, .swapped = 1);
+    /* As many vertices as there is room for, the last edge of them. */
+    GIVES(LwMeeting, lw_meeting(full(), 256, at_end, COUNT(at_end)), .meets = 1, .inner = 127, .swapped = 1);
+    GIVES(LwMeeting, lw_meeting(at_end, COUNT(at_end), full(), 256), .meets = 1, .inner = 127);
+    GIVES(LwMeeting, lw_meeting(full(), 256, full(), 256), .meets = 1);
+    GIVES(LwMeeting, lw_meeting(full(), 256, many, 256), .meets = 1);
+    for (size_t k = 0; k < COUNT(none); k++) {
+        GIVES(LwMeeting, lw_meeting(none[k].numbers, none[k].count, square, COUNT(square)), .refusal = 21);
+        GIVES(LwMeeting, lw_meeting(square, COUNT(square), none[k].numbers, none[k].count), .refusal = 21);
+        GIVES(LwMeeting, lw_meeting(none[k].numbers, none[k].count, none[0].numbers, none[0].count), .refusal = 21);
+    }
+    drawn_meetings();
+}
+
 /* From the last vertex on there is none. */
 static const size_t past[] = {4, 5, 128, 256, (size_t)1 << 32, SIZE_MAX / 2, SIZE_MAX / 2 + 1, SIZE_MAX};
 
@@ -342,8 +450,14 @@ static void exact_turns(void)
         {{0.1, 0.2, 0.1, 0.4, 0.4, 0.7}, 0.2, 0.5, LW_ON_BOUNDARY},
         {{0.1, 0.2, 0, 0.2, 0.7, 0.6}, 0.4, 0.4, LW_ON_BOUNDARY},
     };
+    /* A corner that is right on an edge, and one that is right beside it. */
+    static const double leaning[] = {-0.09, 0.02, -0.72, -0.12, -0.54, -0.93, 0.09, -0.79};
+    static const double onto[] = {-0.45, -0.06, -0.48, -0.35, -0.3, -0.31};
+    static const double slope[] = {0.7, 0.4, 0, 0.6, 0.6, 0}, under[] = {0.1, 0.5, 0.5, 0.1, 0.5, 0.4};
     LwOutline a = lw_check(beside, COUNT(beside));
     CHECK(a.refusal == 0 && a.count == 4);
+    GIVES(LwMeeting, lw_meeting(leaning, COUNT(leaning), onto, COUNT(onto)), .meets = 1, .swapped = 1);
+    GIVES(LwMeeting, lw_meeting(slope, COUNT(slope), under, COUNT(under)), .meets = 0);
     bad_outline(crossed, COUNT(crossed), 9, 0, 2, 0);
     bad_outline(touching, COUNT(touching), 9, 1, 3, 0);
     for (size_t k = 0; k < COUNT(points); k++) {
@@ -364,6 +478,8 @@ static void with_number(size_t k, double number)
     CHECK(lw_nearest(given, 8, 2, 2).refusal == 21 && lw_area(given, 8).refusal == 21);
     CHECK(no_length(lw_perimeter(given, 8)) && no_length(lw_extent(given, 8)));
     CHECK(no_length(lw_clearance(given, 8, square, 8)) && no_length(lw_clearance(square, 8, given, 8)));
+    GIVES(LwMeeting, lw_meeting(given, 8, square, 8), .refusal = 21);
+    GIVES(LwMeeting, lw_meeting(square, 8, given, 8), .refusal = 21);
     CHECK(lw_vertex(given, 8, 0).refusal == 21 && lw_edge(given, 8, 0).refusal == 21);
     refused_offset(lw_inset(given, 8, 1, fresh(), ROOM), 21, 0, 0, 0);
     refused_offset(lw_outset(given, 8, 1, fresh(), ROOM), 21, 0, 0, 0);
@@ -402,6 +518,7 @@ void test_outlines(void)
     run("lw_perimeter", perimeter);
     run("lw_extent", extent);
     run("lw_clearance", clearance);
+    run("lw_meeting", meeting);
     run("lw_vertex", vertex);
     run("lw_edge", edge);
     run("lw_inset", inset);

@@ -18,7 +18,7 @@ NAME = "liblizardwire.so"
 # The number in the name that the library was built with: within one, functions are added and none is changed.
 INTERFACE = 1
 # LW_VERSION of the header that is declared here: a library of this version or a later one has all of it.
-VERSION = 1
+VERSION = 2
 
 VERTICES, HOLES, HOLE_VERTICES = 128, 8, 32
 OUTLINE_NUMBERS = 2 * VERTICES
@@ -52,6 +52,7 @@ LwPlace = _struct("LwPlace", *_wholes("refusal", "first", "place"))
 LwNearest = _struct("LwNearest", *_wholes("refusal", "first"), *_floats("distance", "east", "north"))
 LwArea = _struct("LwArea", *_wholes("refusal"), *_floats("area"))
 LwLength = _struct("LwLength", *_wholes("refusal"), *_floats("length"))
+LwMeeting = _struct("LwMeeting", *_wholes("refusal", "meets", "outer", "inner", "swapped"))
 LwPoint = _struct("LwPoint", *_wholes("refusal"), *_floats("east", "north"))
 LwEdge = _struct("LwEdge", *_wholes("refusal"), *_floats("start_east", "start_north", "end_east", "end_north"))
 LwOffset = _struct("LwOffset", *_REFUSAL, *_wholes("count"), *_EVENTS)
@@ -77,6 +78,7 @@ FUNCTIONS: Dict[str, Tuple[Any, Tuple[Any, ...]]] = {
     "lw_perimeter": (LwLength, _NUMBERS),
     "lw_extent": (LwLength, _NUMBERS),
     "lw_clearance": (LwLength, _NUMBERS + _NUMBERS),
+    "lw_meeting": (LwMeeting, _NUMBERS + _NUMBERS),
     "lw_vertex": (LwPoint, _NUMBERS + (c_size_t,)),
     "lw_edge": (LwEdge, _NUMBERS + (c_size_t,)),
     "lw_inset": (LwOffset, _NUMBERS + (c_double,) + _NUMBERS),

@@ -10,7 +10,7 @@ from typing import Callable, Dict, Iterable, List, NamedTuple, Optional, Sequenc
 from xml.sax.saxutils import escape, quoteattr
 
 from .jobs import Answer
-from .refusals import short
+from .refusals import Pair, short
 from .shapes import Point, Ring
 
 CELL, GAP, MARGIN = 320, 20, 20
@@ -62,14 +62,6 @@ STYLE = """
 """
 
 
-class Crossed(NamedTuple):
-    """Two edges of a ring that cross."""
-
-    ring: int
-    first: int
-    second: int
-
-
 class Item(NamedTuple):
     """One outline to draw: ``up`` where the second coordinate grows upwards."""
 
@@ -89,20 +81,15 @@ class Item(NamedTuple):
         refused = self.answer.refused
         return f"no, {refused.number}: {refused.words}" if refused else self.answer.words()
 
-    def crossed(self) -> Optional[Crossed]:
-        """The edges of a 9, where they are known and there."""
-        values = self._values(9)
-        found = Crossed(values["ring"], values["first"], values["second"]) if values else None
-        return found if found and found.ring < len(self.rings) and self.rings[found.ring] else None
+    def pair(self) -> Optional[Pair]:
+        """Two edges that cross or touch, of a 9, an 11 or a 12, where they are known and there."""
+        pair = self.answer.refused.edges if self.answer.refused else None
+        return pair if pair and all(ring < len(self.rings) and self.rings[ring] for ring, _ in pair) else None
 
     def failing_holes(self) -> List[int]:
         """The holes of an 11 or a 12, where they are known."""
-        return list(self._values(11).values()) + list(self._values(12).values())
-
-    def _values(self, number: int) -> Dict[str, int]:
-        """The whole numbers that a refusal of this number carries."""
         refused = self.answer.refused
-        return {name: int(value) for name, value in refused.values.items()} if refused and refused.number == number else {}
+        return [int(value) for value in refused.values.values()] if refused and refused.number in (11, 12) else []
 
 
 # ---- words
@@ -142,6 +129,11 @@ def wrap(text: str, size: float, room: float) -> List[str]:
     return lines
 
 
+def pair_words(pair: Pair) -> str:
+    """Two edges that cross or touch, by the numbers of their rings in what was given."""
+    return " meets ".join(f"edge {edge} of ring {ring}" for ring, edge in pair)
+
+
 class Line(NamedTuple):
     """A line of words: parts with their class, and how far each is from the left."""
 
@@ -169,6 +161,7 @@ def finite(rings: Iterable[Ring]) -> List[Ring]:
     return [ring for ring in rings if ring and all(math.isfinite(c) and abs(c) < 1e150 for p in ring for c in p)]
 
 
+Segment = Tuple[Point, Point]
 Placing = Callable[[Point], Point]
 
 
@@ -186,7 +179,7 @@ def path(rings: Iterable[Ring], place: Placing) -> str:
     return "".join("M" + "L".join("{:.2f} {:.2f}".format(*place(p)) for p in ring) + "Z" for ring in rings)
 
 
-def ends(ring: Ring, edge: int) -> Tuple[Point, Point]:
+def ends(ring: Ring, edge: int) -> Segment:
     """Where an edge starts and ends."""
     return ring[edge % len(ring)], ring[(edge + 1) % len(ring)]
 
@@ -208,28 +201,35 @@ def meeting(a: Point, b: Point, c: Point, d: Point) -> Point:
         u = ((c[0] - a[0]) * r[1] - (c[1] - a[1]) * r[0]) / turn
         if -1e-9 <= t <= 1 + 1e-9 and -1e-9 <= u <= 1 + 1e-9:
             return a[0] + t * r[0], a[1] + t * r[1]
-    shared = {a, b} & {c, d}
+    shared = sorted({a, b} & {c, d})
     options = [(away(p, c, d), p) for p in (a, b) if p not in shared] + [(away(p, a, b), p) for p in (c, d) if p not in shared]
-    return min(options)[1] if options else a
+    found = min(options, default=(math.inf, a))
+    # Two on one line, one behind the other, have their end in common and nothing else.
+    return shared[0] if shared and found[0] > 1e-6 else found[1]
 
 
-def beside(edge: Tuple[Point, Point], text: str, size: float, walls: Sequence[Tuple[Point, Point]], spot: Point,
+# Where the number of an edge may stand: how far along the edge, in its lengths; how far on, and to its side, in the text's size.
+PLACES = [*((t, 0.0, side) for t in (0.5, 0.38, 0.62, 0.26, 0.74, 0.14, 0.86) for side in (0.85, -0.85, 1.6, -1.6)),
+          (0.0, -0.95, 0.0), (1.0, 0.95, 0.0)]
+
+
+def beside(edge: Segment, other: Segment, text: str, size: float, walls: Sequence[Segment], spot: Point,
            taken: Sequence[Tuple[Point, str]], box: Tuple[float, float, float, float]) -> Point:
-    """A place for a number beside an edge: clear of the other edges, of the spot and of what is taken, inside the box."""
+    """A place for a number beside an edge: clear of all edges, of the spot and of what is taken, inside the box, and not at the other."""
     (ax, ay), (bx, by) = edge
-    length, half = math.hypot(bx - ax, by - ay) or 1.0, width(text, size, True) / 2
+    length, half = math.dist(*edge) or 1.0, width(text, size, True) / 2
+    east, north = size * (bx - ax) / length, size * (by - ay) / length
     best, best_score = ((ax + bx) / 2, (ay + by) / 2), -math.inf
-    for t in (0.5, 0.38, 0.62, 0.26, 0.74, 0.14, 0.86):
-        for side in (0.85, -0.85, 1.6, -1.6):
-            p = ax + t * (bx - ax) - side * size * (by - ay) / length, ay + t * (by - ay) + side * size * (bx - ax) / length
-            p = min(max(p[0], box[0] + half), box[2] - half), min(max(p[1], box[1] + size / 2), box[3] - size / 2)
-            clear = min([away(p, *wall) for wall in walls], default=size)
-            over = sum(1 for q, other in taken if abs(p[1] - q[1]) < size
-                       and abs(p[0] - q[0]) < half + width(other, size, True) / 2 + 0.2 * size)
-            score = (min(clear, size) + min(math.dist(p, spot), 2 * size) - 10 * size * over
-                     - 0.1 * size * abs(t - 0.5) - 0.4 * size * (abs(side) > 1))
-            if score > best_score:
-                best, best_score = p, score
+    for t, on, side in PLACES:
+        p = ax + t * (bx - ax) + on * east - side * north, ay + t * (by - ay) + on * north + side * east
+        p = min(max(p[0], box[0] + half), box[2] - half), min(max(p[1], box[1] + size / 2), box[3] - size / 2)
+        clear = min([away(p, *wall) for wall in walls], default=size)
+        over = sum(1 for q, number in taken if abs(p[1] - q[1]) < size
+                   and abs(p[0] - q[0]) < half + width(number, size, True) / 2 + 0.2 * size)
+        score = (min(clear, size) + min(math.dist(p, spot), 2 * size) - 10 * size * over - 0.1 * size * abs(t - 0.5)
+                 - 0.4 * size * (abs(side) != 0.85) - 4 * size * (away(p, *other) < 1.3 * away(p, *edge)))
+        if score > best_score:
+            best, best_score = p, score
     return best
 
 
@@ -287,29 +287,28 @@ def vertices(page: Page, rings: List[Ring]) -> None:
 
 
 def marks(page: Page, item: Item, place: Placing, left: float, top: float) -> None:
-    """The two edges of a 9 with their numbers; the holes of an 11 or a 12."""
-    crossed = item.crossed()
-    if crossed:
-        crossing(page, item, crossed, place, (left, top, left + page.cell, top + page.high))
+    """Two edges that cross or touch, with their numbers; where there are none, the holes of an 11 or a 12."""
+    pair = item.pair()
     marked = [item.rings[hole + 1] for hole in item.failing_holes() if hole + 1 < len(item.rings)]
-    if marked:
+    if pair:
+        crossing(page, item, pair, place, (left, top, left + page.cell, top + page.high))
+    elif marked:
         page.shapes.append(f'<path class="mark" d="{path(marked, place)}"/>')
 
 
-def crossing(page: Page, item: Item, crossed: Crossed, place: Placing, box: Tuple[float, float, float, float]) -> None:
-    """Two edges that cross: drawn thick, the place ringed, their numbers beside them."""
+def crossing(page: Page, item: Item, pair: Pair, place: Placing, box: Tuple[float, float, float, float]) -> None:
+    """Two edges that cross or touch: drawn thick, the place ringed, their numbers beside them."""
     rings = [[place(p) for p in ring] for ring in item.rings]
-    ring = rings[crossed.ring]
-    edges = [ends(ring, crossed.first), ends(ring, crossed.second)]
-    for a, b in edges:
-        page.shapes.append('<path class="mark" d="M{:.2f} {:.2f}L{:.2f} {:.2f}"/>'.format(*a, *b))
+    edges = [ends(rings[ring], edge) for ring, edge in pair]
     spot = meeting(*edges[0], *edges[1])
-    page.shapes.append('<circle class="spot" cx="{:.2f}" cy="{:.2f}" r="10"/>'.format(*spot))
+    page.shapes += [f"<g><title>{pair_words(pair)}</title>",
+                    *('<path class="mark" d="M{:.2f} {:.2f}L{:.2f} {:.2f}"/>'.format(*a, *b) for a, b in edges),
+                    '<circle class="spot" cx="{:.2f}" cy="{:.2f}" r="10"/></g>'.format(*spot)]
     walls = [ends(r, k) for r in rings for k in range(len(r))]
     for kind, size in page.sizes():
         taken: List[Tuple[Point, str]] = []
-        for number, edge in zip((str(crossed.first), str(crossed.second)), edges):
-            at = beside(edge, number, size, walls, spot, taken, box)
+        for number, edge, other in zip((str(of.edge) for of in pair), edges, edges[::-1]):
+            at = beside(edge, other, number, size, walls, spot, taken, box)
             taken.append((at, number))
             page.say(kind, at[0], at[1] + 0.36 * size, number, "edge")
 
@@ -317,6 +316,7 @@ def crossing(page: Page, item: Item, crossed: Crossed, place: Placing, box: Tupl
 def legend(page: Page, items: Sequence[Item], top: float) -> float:
     """What the colours mean, of what there is; where it ends."""
     refused = {item.answer.refused.number for item in items if item.answer.refused}
+    found = all(item.pair() for item in items if item.answer.refused and item.answer.refused.number in (11, 12))
     rows = [('<path class="source" d="M{0} {1}h40v20h-40z"/>', "outline, as drawn")]
     if any(item.answer.rings for item in items):
         rows.append(('<path class="cage" d="M{0} {2}h40"/><circle class="vertex" cx="{0}" cy="{2}" r="3.4"/>'
@@ -325,7 +325,7 @@ def legend(page: Page, items: Sequence[Item], top: float) -> float:
         rows.append(('<path class="source refused" d="M{0} {1}h40v20h-40z"/>', "no cage: refused"))
     if refused & {9, 11, 12}:
         rows.append(('<path class="mark" d="M{0} {1}l40 20m-40 0l40 -20"/>',
-                     "edges that cross" if not refused & {11, 12} else "where it fails"))
+                     "edges that cross" if not refused & {11, 12} else "edges that meet" if found else "where it fails"))
     step = max(36, 1.25 * page.phone)
     for k, (mark, words) in enumerate(rows):
         x, y = MARGIN + k % 2 * (page.across - 2 * MARGIN + GAP) / 2 + 4, top + k // 2 * step
@@ -382,10 +382,11 @@ def in_place(items: Sequence[Item]) -> str:
         out.append(f'<path class="{kind}" d="{_exact(rings)}"><title>{escape(name)}</title></path>')
         if cage:
             out.append(f'<path class="cage" d="{_exact(cage)}"><title>{escape(name)} cage</title></path>')
-        crossed = item.crossed()
-        if crossed and len(rings) == len(item.rings):
-            for edge in (crossed.first, crossed.second):
-                out.append(f'<path class="mark" d="{_exact([list(ends(rings[crossed.ring], edge))])[:-1]}"/>')
+        pair = item.pair()
+        if pair and len(rings) == len(item.rings):
+            out.append(f"<g><title>{pair_words(pair)}</title>")
+            out += [f'<path class="mark" d="{_exact([list(ends(rings[ring], edge))])[:-1]}"/>' for ring, edge in pair]
+            out.append("</g>")
         out.append("</g>")
     left, top = min(east, default=0.0), min(north, default=0.0)
     wide, high = max(east, default=1.0) - left, max(north, default=1.0) - top

@@ -67,8 +67,20 @@ SENTENCES = {
     20: "the lent memory is too short: {needed} are needed",
 }
 
-# What more can be known: how the second ring of an 11 or a 12 lies to the first; that the number of a 2 is a point's.
-MEETS, WITHIN, AROUND, APART, OF_POINT = "meets", "within", "around", "apart", "of a point"
+
+class RingEdge(NamedTuple):
+    """An edge of a ring of what was given: edge k runs from vertex k to the next, the last one to vertex 0."""
+
+    ring: int
+    edge: int
+
+
+# Two edges that cross or touch, that of the lower ring first.
+Pair = Tuple[RingEdge, RingEdge]
+# What more can be known: which edges of the two rings of an 11 or a 12 meet, or, where none do, how the second lies to the first; that
+# the number of a 2 is a point's.
+WITHIN, AROUND, APART, OF_POINT = "within", "around", "apart", "of a point"
+Known = Union[Pair, str, None]
 
 
 class Drawn(NamedTuple):
@@ -133,19 +145,21 @@ def _repeated(ring: int, drawn: Optional[Drawn]) -> str:
     return f"vertices {found[0]} and {found[1]} of {name} are the same point" if found else f"{name} has the same vertex twice in a row"
 
 
-def _hole_outside(hole: int, known: Optional[str]) -> str:
+def _hole_outside(hole: int, known: Known) -> str:
     """The words of an 11."""
+    if isinstance(known, tuple):
+        return f"edge {known[1].edge} of ring {hole + 1} crosses or touches edge {known[0].edge} of ring 0"
     return {
-        MEETS: f"ring {hole + 1} crosses or touches ring 0",
         AROUND: f"ring {hole + 1} lies around ring 0: the outer ring comes first",
         APART: f"ring {hole + 1} lies apart from ring 0: each is an outline of its own",
     }.get(known or "", f"ring {hole + 1} is not inside ring 0")
 
 
-def _holes_touch(first: int, second: int, known: Optional[str]) -> str:
+def _holes_touch(first: int, second: int, known: Known) -> str:
     """The words of a 12."""
+    if isinstance(known, tuple):
+        return f"edge {known[0].edge} of hole {first} crosses or touches edge {known[1].edge} of hole {second}"
     return {
-        MEETS: f"hole {first} crosses or touches hole {second}",
         WITHIN: f"hole {second} lies inside hole {first}",
         AROUND: f"hole {first} lies inside hole {second}",
     }.get(known or "", f"hole {first} and hole {second} are not apart")
@@ -176,7 +190,10 @@ class Refused(ValueError):
     ``number`` is the number of the question that was answered with no, 1 to 22.
     ``values`` has what goes with it by name: ``{"ring": 0, "first": 3, "second": 7}``
     of two edges that cross. ``words`` is the reason without the number; they name
-    vertices where the refused drawing is at hand (``drawn``, and what else is ``known``).
+    vertices and edges where the refused drawing is at hand (``drawn``, and what else is
+    ``known``). ``edges`` has two edges that cross or touch, each with its ring: those of
+    a 9; of an 11 or a 12 of a drawing at hand those of its two rings, the lower ring
+    first; None where there are none.
     ``of_result`` says whether the ring of a 4, 5 or 6 is one of the result, None where
     that is not known. ``collapses``, ``divides`` and ``joins`` count what the offset had
     done before it stopped. Rings, holes, vertices and edges count from 0; edge k runs
@@ -184,11 +201,12 @@ class Refused(ValueError):
     """
 
     def __init__(self, number: int, values: Optional[Dict[str, Value]] = None, *, of_result: Optional[bool] = False,
-                 drawn: Optional[Drawn] = None, known: Optional[str] = None, events: Tuple[int, int, int] = (0, 0, 0)) -> None:
+                 drawn: Optional[Drawn] = None, known: Known = None, events: Tuple[int, int, int] = (0, 0, 0)) -> None:
         self.number = number
         self.values: Dict[str, Value] = dict(values or {})
         self.of_result = of_result
         self.collapses, self.divides, self.joins = events
+        self.edges: Optional[Pair] = known if isinstance(known, tuple) else self._crossed()
         self.words = self._words(drawn, known)
         super().__init__(f"{self.words} (refusal {number})")
 
@@ -202,7 +220,14 @@ class Refused(ValueError):
     def __reduce__(self) -> Tuple[Any, ...]:  # an exception with keyword arguments is pickled by hand
         return _again, (self.number, self.words), self.__dict__
 
-    def _words(self, drawn: Optional[Drawn], known: Optional[str]) -> str:
+    def _crossed(self) -> Optional[Pair]:
+        """The two edges of a 9, where they are known."""
+        if self.number != 9 or not self.values:
+            return None
+        ring, first, second = (int(self.values[name]) for name in ("ring", "first", "second"))
+        return RingEdge(ring, first), RingEdge(ring, second)
+
+    def _words(self, drawn: Optional[Drawn], known: Known) -> str:
         """The reason in words, with its values where they are known."""
         number, v = self.number, self.values or (drawn.found(self.number) if drawn else {})
         plain = PLAIN.get(number, "refused")

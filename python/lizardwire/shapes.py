@@ -5,7 +5,7 @@ from typing import Any, Iterable, List, NamedTuple, NoReturn, Optional, Sequence
 
 from . import _library
 from ._library import call, lent, numbers_in, points, whole, wholes_in
-from .refusals import APART, AROUND, MEETS, OF_POINT, WITHIN, Drawn, Refused, refused
+from .refusals import APART, AROUND, OF_POINT, WITHIN, Drawn, Known, Refused, RingEdge, refused
 
 Point = Tuple[float, float]
 Edge = Tuple[Point, Point]
@@ -33,6 +33,29 @@ class Nearest(NamedTuple):
 
     distance: float
     point: Point
+
+
+class Meeting(NamedTuple):
+    """Two edges that meet, one of each of two outlines: in ``first.meeting(second)``.
+
+    The outline of fewer vertices is in the outer walk, of two with as many the first. ``outer`` is the lowest edge there that
+    meets any edge of the other, and ``inner`` the lowest edge of the other that it meets: so they are not in the order in which
+    the outlines are named. ``swapped`` says whether the second, having fewer vertices, is in the outer walk.
+    """
+
+    outer: int
+    inner: int
+    swapped: bool
+
+    @property
+    def edge_of_first(self) -> int:
+        """The edge of the outline that is named first."""
+        return self.inner if self.swapped else self.outer
+
+    @property
+    def edge_of_second(self) -> int:
+        """The edge of the outline that is named second."""
+        return self.outer if self.swapped else self.inner
 
 
 class Events(NamedTuple):
@@ -291,6 +314,14 @@ class Outline:
         """The least distance from a vertex of the other outline to an edge of this one; 0 if an edge of one meets an edge of the other."""
         return float(_granted(call("lw_clearance", *self._numbers, *_outline(other)._numbers)).length)
 
+    def meeting(self, other: "Outline") -> Optional[Meeting]:
+        """Two edges, one of this outline and one of the other, that share a point, which is told exactly; see :class:`Meeting`.
+
+        None where no two do, as where one outline lies inside the other. An edge is counted in its outline as it is: see :attr:`edges`.
+        """
+        found = _granted(call("lw_meeting", *self._numbers, *_outline(other)._numbers))
+        return Meeting(found.outer, found.inner, found.swapped == 1) if found.meets == 1 else None
+
     def contains(self, point: PointLike) -> Place:
         """Where a point lies: on the boundary if and only if it lies on an edge, with nothing rounded.
 
@@ -414,7 +445,7 @@ class Region:
         answer = call(name, *numbers_in(numbers), *wholes_in(lengths), out, len(out))
         if answer.refusal:
             given = Drawn(numbers, lengths)
-            raise refused(answer, drawn=given, known=_known(answer, given, as_it_is=name == "lw_given_region"))
+            raise refused(answer, drawn=given, known=_known(answer, given))
         self._hold(out, answer.counts[:answer.rings])
 
     def _hold(self, numbers: Sequence[float], lengths: List[int]) -> None:
@@ -511,15 +542,24 @@ class Region:
         return "<Region of " + " + ".join(map(str, self.lengths)) + " vertices>"
 
 
-def _known(answer: Any, given: Drawn, as_it_is: bool = False) -> Optional[str]:
-    """How the second ring of an 11 or a 12 lies to the first. All rings have passed 21 by then, a closing repeat dropped or as they are."""
+def _as_drawn(given: Drawn, ring: int) -> Outline:
+    """A ring as an outline, not turned round, so that its edges have the numbers that they were given with: without a closing
+    repeat, as one that was drawn; or as it is, where it is none without it."""
+    try:
+        return Outline.stored(_numbers(given.ring(ring)))
+    except Refused:
+        return Outline.stored(_numbers(given.as_it_is(ring)))
+
+
+def _known(answer: Any, given: Drawn) -> Known:
+    """Which edges of the two rings of an 11 or a 12 meet, or how the second lies to the first. All rings have passed 21 by then."""
     if answer.refusal not in (11, 12):
         return None
     first, second = (0, answer.first + 1) if answer.refusal == 11 else (answer.first + 1, answer.second + 1)
-    part = given.as_it_is if as_it_is else given.ring
-    one, two = (Outline.stored(_numbers(part(ring))) for ring in (first, second))
-    if one.clearance(two) == 0:
-        return MEETS
+    one, two = _as_drawn(given, first), _as_drawn(given, second)
+    met = one.meeting(two)
+    if met:
+        return RingEdge(first, met.edge_of_first), RingEdge(second, met.edge_of_second)
     if one.contains(two.vertex(0)) is Place.INSIDE:
         return WITHIN
     return AROUND if two.contains(one.vertex(0)) is Place.INSIDE else APART

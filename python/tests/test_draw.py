@@ -6,10 +6,37 @@ import unittest
 import xml.etree.ElementTree as ElementTree
 
 from lizardwire import Answer, Job, Refused, svg
-from lizardwire.draw import Item, Page, cut, in_place, meeting, picture, width, wrap
-from tests.support import BOW, PANE, SQUARE
+from lizardwire.draw import Item, Page, away, cut, in_place, meeting, picture, width, wrap
+from tests.support import BOW, HOOK, PANE, SQUARE
 
 SPACE = "{http://www.w3.org/2000/svg}"
+
+
+OVER = [(8, 4), (12, 4), (12, 6), (8, 6)]
+# Rings of a job, the refusal, and the edges that meet, each with its ring: a hole across the outer ring; with its closing repeat, drawn
+# clockwise, the outer ring drawn clockwise, both; at a vertex of its own, of both, at the end of an edge that goes on; two holes.
+MEETINGS = (
+    ([PANE[0], OVER], 11, (0, 1), (1, 0)),
+    ([PANE[0], OVER + OVER[:1]], 11, (0, 1), (1, 0)),
+    ([PANE[0], OVER[::-1]], 11, (0, 1), (1, 0)),
+    ([PANE[0][::-1], OVER], 11, (0, 1), (1, 0)),
+    ([SQUARE, HOOK], 11, (0, 1), (1, 2)),
+    ([SQUARE + SQUARE[:1], HOOK], 11, (0, 1), (1, 2)),
+    ([SQUARE[::-1], HOOK + HOOK[:1]], 11, (0, 1), (1, 2)),
+    ([SQUARE, HOOK[:1] + HOOK[:0:-1]], 11, (0, 1), (1, 0)),
+    ([PANE[0], [(5, 4), (5, 6), (0, 5)]], 11, (0, 3), (1, 1)),
+    ([PANE[0], [(5, 5), (10, 10), (4, 6)]], 11, (0, 1), (1, 0)),
+    ([PANE[0], [(10, 0), (14, 0), (14, 4)]], 11, (0, 0), (1, 0)),
+    ([PANE[0], PANE[1], [(5, 5), (7, 5), (7, 7), (5, 7)]], 12, (1, 1), (2, 0)),
+    ([PANE[0], [(1, 1), (2, 1), (2, 2)], PANE[1], [(3, 5), (3, 4), (5, 5)]], 12, (2, 3), (3, 1)),
+)
+# The same where no edges meet, and the rings that are marked: a hole apart, around, within another, around another.
+UNMET = (
+    ([PANE[0], [(x + 20, y) for x, y in SQUARE]], 11, [1]),
+    (PANE[::-1], 11, [1]),
+    ([PANE[0], PANE[1], [(1, 1), (9, 1), (9, 9), (1, 9)]], 12, [1, 2]),
+    ([PANE[0], [(1, 1), (9, 1), (9, 9), (1, 9)], PANE[1]], 12, [1, 2]),
+)
 
 
 def item(ring, distance=1, name="part", side="inset", up=True):
@@ -76,6 +103,49 @@ class Pictures(unittest.TestCase):
         self.assertEqual(len(points(classes(parse([one]), "mark")[1])), 4)
         self.assertIn("fill-rule: evenodd", picture([one]))
 
+    def test_edges_of_two_rings_are_marked(self):
+        for rings, number, *pair in MEETINGS:
+            one = item(rings)
+            self.assertEqual((one.answer.refused.number, one.answer.refused.edges), (number, tuple(pair)), rings)
+            root = parse([one])
+            placed = iter(points(classes(root, "refused")[1]))
+            source = [[next(placed) for _ in ring] for ring in rings]
+            edges = [[source[ring][edge], source[ring][(edge + 1) % len(rings[ring])]] for ring, edge in pair]
+            self.assertEqual([points(mark) for mark in classes(root, "mark")[1:]], edges, rings)
+            spot = [float(classes(root, "spot")[0].get(name)) for name in ("cx", "cy")]
+            self.assertLess(max(away(spot, *edge) for edge in edges), 0.03, rings)
+            words = "edge {} of ring {} meets edge {} of ring {}".format(*(n for ring, edge in pair for n in (edge, ring)))
+            self.assertIn(words, [title.text for title in root.iter(SPACE + "title")])
+            for kind, size in Page(1).sizes():
+                numbers = [t for t in texts(root, kind) if t.get("class") == "edge"]
+                self.assertEqual([t.text for t in numbers], [str(edge) for _, edge in pair])
+                self.assertIn("edges that meet", [t.text for t in texts(root, kind)])
+                # Each number stands at its own edge.
+                for t, edge, other in zip(numbers, edges, edges[::-1]):
+                    at = float(t.get("x")), float(t.get("y")) - 0.36 * size
+                    self.assertLess(away(at, *edge), away(at, *other), (rings, kind, t.text))
+
+    def test_where_no_edges_meet_the_holes_are_marked(self):
+        for rings, number, marked in UNMET:
+            one = item(rings)
+            self.assertEqual((one.answer.refused.number, one.answer.refused.edges), (number, None))
+            # The picture is that of the refusal and its holes, however it was found.
+            told = Refused(number, one.answer.refused.values)
+            told.words = one.answer.refused.words
+            self.assertEqual(picture([one]), picture([one._replace(answer=Answer([], told))]))
+            root = parse([one])
+            self.assertEqual([len(points(mark)) for mark in classes(root, "mark")[1:]], [sum(len(rings[ring]) for ring in marked)])
+            self.assertEqual((len(classes(root, "spot")), len(list(root.iter(SPACE + "title")))), (0, 1))
+            self.assertIn("where it fails", [t.text for t in texts(root, "wide")])
+
+    def test_what_the_marks_are_called(self):
+        met, unmet = item(MEETINGS[0][0]), item(UNMET[0][0])
+        for items, words in (([item(BOW)], "edges that cross"), ([item(BOW), met], "edges that meet"), ([met, met], "edges that meet"),
+                             ([met, unmet], "where it fails"), ([item(BOW), unmet], "where it fails"), ([item(SQUARE)], None)):
+            said = [t.text for t in texts(parse(items), "wide")]
+            for name in ("edges that cross", "edges that meet", "where it fails"):
+                self.assertEqual(said.count(name), int(name == words), (words, name))
+
     def test_refused_in_words(self):
         root = parse([item(SQUARE, 2)])
         self.assertEqual(len(classes(root, "cage")), 0)
@@ -114,6 +184,21 @@ class InPlace(unittest.TestCase):
         root = ElementTree.fromstring(in_place([item(BOW)]))
         self.assertEqual([len(points(mark)) for mark in classes(root, "mark")], [2, 2])
         self.assertIn("part, inset 1: no, 9: edge 0 crosses edge 2", "".join(root.itertext()))
+
+    def test_edges_of_two_rings(self):
+        for rings, number, *pair in MEETINGS:
+            for up in (False, True):
+                root = ElementTree.fromstring(in_place([item(rings, up=up)]))
+                turn = -1 if up else 1
+                edges = [[rings[ring][edge], rings[ring][(edge + 1) % len(rings[ring])]] for ring, edge in pair]
+                marks = [[(x, turn * y) for x, y in points(mark)] for mark in classes(root, "mark")]
+                self.assertEqual(marks, edges)
+                said = [title.text for title in root.iter(SPACE + "title")]
+                self.assertIn(f"no, {number}: edge ", said[1])
+                self.assertRegex(said[3], r"^edge \d of ring \d meets edge \d of ring \d$")
+        for rings, number, _ in UNMET:
+            root = ElementTree.fromstring(in_place([item(rings)]))
+            self.assertEqual((classes(root, "mark"), len(list(root.iter(SPACE + "title")))), ([], 3))
 
     def test_all_is_in_the_box(self):
         root = ElementTree.fromstring(in_place([item(SQUARE, side="outset"), item([(50, 50), (60, 50), (60, 60)])]))
@@ -163,6 +248,18 @@ class Room(unittest.TestCase):
         for columns in (1, 2, 3, 5):
             self.check(items, columns)
 
+    def test_rings_that_meet(self):
+        draw, items = random.Random(6), []
+        for _ in range(60):
+            count, size = draw.randint(3, 12), draw.uniform(1, 8)
+            middle = draw.uniform(-1, 11), draw.uniform(-1, 11)
+            hole = [(middle[0] + size * math.cos(2 * math.pi * k / count), middle[1] + size * math.sin(2 * math.pi * k / count))
+                    for k in range(count)]
+            items.append(item([PANE[0], hole, PANE[1]]))
+        self.assertGreater(sum(one.pair() is not None for one in items), 30)
+        for columns in (1, 2, 5):
+            self.check(items, columns)
+
     def test_a_phone_reads_twelve_pixels(self):
         for columns in (1, 2, 3, 5):
             page = Page(columns)
@@ -184,6 +281,12 @@ class Parts(unittest.TestCase):
         self.assertEqual(meeting((0, 0), (4, 4), (0, 4), (4, 0)), (2, 2))
         self.assertEqual(meeting((4, 0), (4, 4), (4, 4), (4, 2)), (4, 2))
         self.assertEqual(meeting((0, 0), (4, 0), (2, 0), (6, 0))[1], 0)
+        # End to end, one turned round, and one upon the other.
+        for a, b, c, d, at in (((0, 0), (4, 0), (4, 0), (6, 0), (4, 0)), ((4, 0), (0, 0), (4, 0), (6, 0), (4, 0)),
+                               ((0, 0), (4, 0), (0, 0), (2, 0), (2, 0)), ((0, 0), (4, 0), (4, 0), (0, 0), (0, 0)),
+                               ((0, 0), (4, 0), (4, 0), (4, 6), (4, 0)), ((1, 1), (1, 1), (0, 0), (4, 4), (1, 1))):
+            self.assertEqual(meeting(a, b, c, d), at)
+            self.assertEqual(meeting(c, d, a, b), at)
 
 
 if __name__ == "__main__":

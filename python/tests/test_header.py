@@ -75,8 +75,8 @@ class Declared(unittest.TestCase):
         self.structs, self.functions = header()
 
     def test_something_is_found(self):
-        self.assertEqual(len(self.structs), 12)
-        self.assertEqual(len(self.functions), 30)
+        self.assertEqual(len(self.structs), 13)
+        self.assertEqual(len(self.functions), 31)
 
     def test_here(self):
         for name, fields in self.structs.items():

@@ -8,9 +8,9 @@ import sys
 import unittest
 
 import lizardwire
-from lizardwire import Cage, Events, Job, Nearest, Outline, Place, Refused, Region, inset, outset
-from tests import typed
-from tests.support import BOW, JOB, PANE, SQUARE, TOP, Folder, comb
+from lizardwire import Cage, Events, Job, Meeting, Nearest, Outline, Place, Refused, Region, inset, outset
+from tests import exact, typed
+from tests.support import BOW, HOOK, JOB, PANE, SQUARE, TOP, Folder, comb
 
 INNER = [(1.0, 1.0), (3.0, 1.0), (3.0, 3.0), (1.0, 3.0)]
 # Its inset by 1.7071065 has five vertices, two of them closer together than a drawing may have them.
@@ -47,6 +47,34 @@ class OfOutlines(Asked):
         self.assertEqual(self.square.clearance(Outline([(x + 9, y) for x, y in SQUARE])), 5)
         with self.assertRaises(TypeError):
             self.square.clearance(SQUARE)
+
+    def test_meeting(self):
+        """The outline of fewer vertices is in the outer walk, of two with as many the first: the pair is not in the named order."""
+        triangle, hook = Outline([(3, 3), (6, 3), (6, 6)]), Outline.stored(flat(HOOK))
+        longer = Outline.stored(flat(HOOK, [(7, 2)]))
+        for first, second, told, edges in ((self.square, triangle, (0, 1, True), (1, 0)), (triangle, self.square, (0, 1, False), (0, 1)),
+                                           (self.square, hook, (1, 2, False), (1, 2)), (hook, self.square, (0, 3, False), (0, 3)),
+                                           (self.square, longer, (1, 2, False), (1, 2)), (longer, self.square, (1, 2, True), (2, 1)),
+                                           (self.square, self.square, (0, 0, False), (0, 0))):
+            met = first.meeting(second)
+            self.assertIsInstance(met, Meeting)
+            self.assertEqual((met, (met.outer, met.inner, met.swapped)), (told, told))
+            self.assertIs(met.swapped, told[2])
+            self.assertEqual((met.edge_of_first, met.edge_of_second), edges)
+            self.assertTrue(exact.share(*first.edge(met.edge_of_first), *second.edge(met.edge_of_second)))
+        for apart in (Outline(INNER), Outline([(1, 1), (3, 1), (2, 3)]), Outline([(x + 5, y) for x, y in SQUARE])):
+            self.assertIsNone(self.square.meeting(apart))
+            self.assertIsNone(apart.meeting(self.square))
+        with self.assertRaises(TypeError):
+            self.square.meeting(SQUARE)
+
+    def test_edges_are_counted_as_they_are(self):
+        """Of an outline that is stored: one that runs clockwise, one with a closing repeat, which counts, one of 128 vertices."""
+        triangle, hook = Outline([(3, 3), (6, 3), (6, 6)]), Outline.stored(flat(HOOK))
+        self.assertEqual(Outline.stored(flat(SQUARE[::-1])).meeting(triangle), (0, 1, True))
+        self.assertEqual(Outline(SQUARE[::-1]).meeting(triangle), (0, 2, True))
+        self.assertEqual(Outline.stored(flat(SQUARE, SQUARE[:1])).meeting(hook), (0, 3, True))
+        self.assertEqual(Outline(comb(128)).meeting(Outline([(-3, 5), (0, 6), (-3, 7)])), (0, 127, True))
 
     def test_vertices_and_edges(self):
         self.assertEqual([self.square.vertex(k) for k in range(4)], SQUARE)

@@ -116,7 +116,7 @@ class Drawn(unittest.TestCase):
     """What is drawn is judged; the counts show that each answer came, and that rounding would have told others."""
 
     def judge_outline(self, ring, met):
-        while ring[0] == ring[-1]:
+        while len(ring) > 1 and ring[0] == ring[-1]:
             ring = ring[:-1]
         _, refusal = made(ring)
         if refusal is not None and refusal.number in (4, 7, 8):
@@ -190,6 +190,22 @@ class Drawn(unittest.TestCase):
         except Refused as refusal:
             met[f"offset refused with {refusal.number}"] += 1
 
+    def judge_meeting(self, r, met):
+        """Two rings, handed in as they are, of which the second touches, or almost touches, the first."""
+        first = r.choice((comb, dented))(r)
+        second = [beside(r, *r.choice(edges(first))) if r.random() < 0.6 else spot(r, 1.0) for _ in range(r.randrange(3, 9))]
+        if r.random() < 0.4:
+            # Beside its edges, so that the rings are apart more often.
+            by = r.uniform(-20, 20)
+            second = [(a + by, b) for a, b in second]
+        rings = [first, second][::r.choice((-1, 1))]
+        one, other = (Outline.stored([number for vertex in ring for number in vertex]) for ring in rings)
+        due = exact.ring_pair(*rings)
+        self.assertEqual(one.meeting(other), due, rings)
+        met["apart" if due is None else "meet, second in the outer walk" if due[2] else "meet, first in the outer walk"] += 1
+        met["not the lowest edge of the outer walk"] += bool(due and due[0])
+        met["nor of the inner walk"] += bool(due and due[0] and due[1])
+
     def judge(self, r, met):
         for ring in (finger(r), comb(r), dented(r)):
             self.judge_outline(ring, met)
@@ -206,6 +222,14 @@ class Drawn(unittest.TestCase):
                      "cages of more than one ring", "region accepted",
                      "region refused with 11, sharing a point: True", "region refused with 12, sharing a point: True"):
             self.assertGreater(met[what], 20, met)
+
+    def test_meetings(self):
+        r, met = random.Random(4), Counter()
+        for _ in range(1500):
+            self.judge_meeting(r, met)
+        for what in ("apart", "meet, second in the outer walk", "meet, first in the outer walk", "not the lowest edge of the outer walk",
+                     "nor of the inner walk"):
+            self.assertGreater(met[what], 100, met)
 
     def test_tiny(self):
         """Shapes of the smallest numbers, handed in as they are."""
@@ -300,15 +324,16 @@ class Any(Case):
             self.refused(13, {}, inset, PANE, bad)
 
     def test_shapes_handed_in(self):
-        out = _library.lent(_library.OUTLINE_NUMBERS)
+        out, square = _library.lent(_library.OUTLINE_NUMBERS), _library.numbers_in([number for point in SQUARE for number in point])
         for k, bad in enumerate((math.nan, math.inf, -math.inf, 1e308, -1e308, MOST, exact.moved(1e9, 1), exact.moved(-1e9, 1))):
             numbers = [number for point in SQUARE for number in point]
             numbers[k] = bad
             shape = _library.numbers_in(numbers)
             for name, *more in (("lw_contains", 2.0, 2.0), ("lw_contains", math.nan, 2.0), ("lw_nearest", 2.0, 2.0), ("lw_area",),
                                 ("lw_inset", 1.0, out, len(out)), ("lw_inset", math.nan, out, len(out)),
-                                ("lw_outset", 1.0, out, len(out))):
+                                ("lw_outset", 1.0, out, len(out)), ("lw_meeting", *square)):
                 self.assertEqual(_library.call(name, *shape, *more).refusal, 21, (name, bad, k))
+            self.assertEqual(_library.call("lw_meeting", *square, *shape).refusal, 21, (bad, k))
 
     def test_points(self):
         square = Outline(SQUARE)
@@ -343,6 +368,7 @@ def main():
     while time.monotonic() < stop:
         met["rounds"] += 1
         Drawn().judge(r, met)
+        Drawn().judge_meeting(r, met)
     for what, count in sorted(met.items()):
         print(f"{what}: {count}")
 

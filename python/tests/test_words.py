@@ -9,7 +9,7 @@ from types import SimpleNamespace
 from lizardwire import Job, Outline, Refused, Region, refusals
 from lizardwire.refusals import OF_POINT, Drawn, short
 from lizardwire.shapes import _known
-from tests.support import BOW, HERE, JOB, PANE, SQUARE, Folder, run
+from tests.support import BOW, HERE, HOOK, JOB, PANE, SQUARE, Folder, run
 
 OF = {"given": False, "result": True, "unknown": None, "point": False}
 
@@ -92,14 +92,41 @@ class OfDrawings(unittest.TestCase):
         bow = Outline.stored([number for x, y in BOW for number in (x + 20, y)])
         self.assertEqual(self.words(Region.of_outlines, Outline(PANE[0]), [bow]), words)
         self.assertEqual(self.words(Region, PANE[::-1]), "ring 1 lies around ring 0: the outer ring comes first")
-        for beside in (SQUARE, [(x + 4, y) for x, y in SQUARE], [(x + 4, y + 4) for x, y in SQUARE]):
-            self.assertEqual(self.words(Region, [SQUARE, beside]), "ring 1 crosses or touches ring 0")
+        for by, first, second in (((0, 0), 0, 0), ((4, 0), 0, 0), ((4, 4), 1, 0), ((-4, 1), 2, 1)):
+            beside = [(x + by[0], y + by[1]) for x, y in SQUARE]
+            words = f"edge {second} of ring 1 crosses or touches edge {first} of ring 0"
+            self.assertEqual(self.words(Region, [SQUARE, beside]), words)
+            self.assertEqual(self.words(Region.of_outlines, Outline(SQUARE), [Outline(beside)]), words)
 
     def test_holes_that_are_not_apart(self):
         big, small = [(1, 1), (9, 1), (9, 9), (1, 9)], PANE[1]
         self.assertEqual(self.words(Region, [PANE[0], big, small]), "hole 1 lies inside hole 0")
         self.assertEqual(self.words(Region, [PANE[0], small, big]), "hole 0 lies inside hole 1")
-        self.assertEqual(self.words(Region, [PANE[0], small, small]), "hole 0 crosses or touches hole 1")
+        self.assertEqual(self.words(Region, [PANE[0], small, small]), "edge 0 of hole 0 crosses or touches edge 0 of hole 1")
+
+    def test_edges_are_those_that_were_given(self):
+        """Also where a ring is stored reversed, or without its closing repeat, or would not be a shape with it."""
+        # As many vertices as a ring can have, the last of them on the hole's edge 1, and then the first one again.
+        full = [(float(k), 1.0 + k % 2) for k in range(126)] + [(128.0, 9.0), (0.0, 9.0), (0.0, 1.0)]
+        tip = [(-3.0, 5.0), (-3.0, 7.0), (0.0, 6.0), (-3.0, 5.0)]
+        for outer, hole, first, second in ((SQUARE, HOOK, 1, 2), (SQUARE + SQUARE[:1], HOOK, 1, 2), (SQUARE, HOOK + HOOK[:1], 1, 2),
+                                           (SQUARE[::-1], HOOK, 1, 2), (SQUARE, HOOK[::-1], 1, 0), (full, tip, 127, 1),
+                                           (tip, full, 1, 127)):
+            for number, rings in ((11, [outer, hole]), (12, [[(x * 50 - 999, y * 50 - 999) for x, y in SQUARE], outer, hole])):
+                told = _known(SimpleNamespace(refusal=number, first=0, second=1),
+                              Drawn([number for ring in rings for point in ring for number in point], list(map(len, rings))))
+                self.assertEqual(told, ((number - 11, first), (number - 10, second)))
+
+    def test_edges_of_a_closed_ring(self):
+        """In words a closing repeat is no vertex, drawn or handed in; for `meeting` it is one, and the other outline has fewer."""
+        words = "edge 2 of ring 1 crosses or touches edge 1 of ring 0"
+        closed, hook = (Outline.stored([number for point in ring for number in point]) for ring in (SQUARE + SQUARE[:1], HOOK))
+        self.assertEqual(self.words(Region, [SQUARE + SQUARE[:1], HOOK]), words)
+        self.assertEqual(self.words(Region.of_outlines, closed, [hook]), words)
+        self.assertEqual(closed.meeting(hook), (0, 3, True))
+        # Without its repeat it would be no shape.
+        back = Outline.stored([0, 20, 4, 20, 0, 20])
+        self.assertEqual(self.words(Region.of_outlines, Outline(SQUARE), [back]), "ring 1 lies apart from ring 0: each is an outline of its own")
 
     def test_what_is_no_shape(self):
         self.assertEqual(self.words(Outline.stored, [0, 0, 4, 0]), "this is not a shape: the outline has 2 vertices, and not 3 to 128")
@@ -107,12 +134,27 @@ class OfDrawings(unittest.TestCase):
         self.assertEqual(self.words(Outline.stored, [0, 0, 4, 0, 4, 2e9]), "this is not a shape: the north of vertex 2 is not within 1e9")
 
     def test_copies_say_the_same(self):
-        with self.assertRaises(Refused) as caught:
-            Region(PANE[::-1])
-        for again in (pickle.loads(pickle.dumps(caught.exception)), copy.copy(caught.exception)):
-            words = "ring 1 lies around ring 0: the outer ring comes first"
-            self.assertEqual((str(again), again.words, again.number, again.values, again.of_result),
-                             (f"{words} (refusal 11)", words, 11, {"hole": 0}, False))
+        for rings, words, edges in ((PANE[::-1], "ring 1 lies around ring 0: the outer ring comes first", None),
+                                    ([SQUARE, HOOK], "edge 2 of ring 1 crosses or touches edge 1 of ring 0", ((0, 1), (1, 2)))):
+            with self.assertRaises(Refused) as caught:
+                Region(rings)
+            for again in (pickle.loads(pickle.dumps(caught.exception)), copy.copy(caught.exception)):
+                self.assertEqual((str(again), again.words, again.number, again.values, again.of_result, again.edges),
+                                 (f"{words} (refusal 11)", words, 11, {"hole": 0}, False, edges))
+
+    def test_edges_of_a_refusal(self):
+        """Of a 9 they are its values; of an 11 or a 12 what is known of the drawing, and the values stay."""
+        self.assertEqual(Refused(9, {"ring": 1, "first": 3, "second": 7}).edges, ((1, 3), (1, 7)))
+        for number, values in ((9, None), (11, {"hole": 0}), (12, {"first": 0, "second": 1}), (16, {"distance": 2.0})):
+            self.assertIsNone(Refused(number, values).edges)
+        for rings, number, values, edges in (
+                ([SQUARE, HOOK], 11, {"hole": 0}, ((0, 1), (1, 2))),
+                ([PANE[0], PANE[1], HOOK], 11, {"hole": 1}, ((0, 3), (2, 0))),
+                ([PANE[0], PANE[1], PANE[1]], 12, {"first": 0, "second": 1}, ((1, 0), (2, 0))),
+                (BOW, 9, {"ring": 0, "first": 0, "second": 2}, ((0, 0), (0, 2)))):
+            refused = Job.of("inset", 1, rings).answer().refused
+            self.assertEqual((refused.number, refused.values, refused.edges), (number, values, edges))
+            self.assertEqual([edge.ring for edge in refused.edges], [edge[0] for edge in edges])
 
 
 class Commands(Folder):

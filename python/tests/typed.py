@@ -3,8 +3,8 @@ from pathlib import Path
 from typing import List, Optional, Tuple
 
 from lizardwire import (
-    Answer, Cage, Events, Job, Nearest, Outline, Place, Refused, Region, Stream, answer_line, hypot, inset, outset, read_jobs, version,
-    write_jobs,
+    Answer, Cage, Events, Job, Meeting, Nearest, Outline, Place, Refused, Region, Stream, answer_line, hypot, inset, outset, read_jobs,
+    version, write_jobs,
 )
 
 SQUARE = [(0, 0), (4, 0), (4, 4), (0, 4)]
@@ -17,6 +17,8 @@ def outlines(outline: Outline) -> Tuple[float, float, float, float]:
     east, north = outline.vertex(-1)
     assert place is Place.INSIDE and start != end
     clear: float = outline.clearance(Outline.stored(outline.numbers))
+    met: Optional[Meeting] = outline.meeting(Outline.stored(outline.numbers))
+    assert met is not None and not met.swapped and met.outer + met.inner == met.edge_of_first + met.edge_of_second
     return outline.area + outline.perimeter, outline.extent + nearest.distance, clear, east + north
 
 
@@ -32,6 +34,7 @@ def cages(distance: float) -> Optional[Cage]:
         cage = inset(SQUARE, distance).inset(distance)
     except Refused as refusal:
         number: int = refusal.number
+        assert refusal.edges is None or refusal.edges[0].ring <= refusal.edges[1].ring
         return None if number else outset([SQUARE], distance)
     events: Events = cage.events
     first: List[Tuple[float, float]] = cage[0]

@@ -2,7 +2,7 @@
 
 use crate::refusal::Refusal;
 use crate::shapes::{points_of, Outline};
-use crate::slices::{Place, Point};
+use crate::slices::Place;
 use crate::words::{coordinate, drawn};
 
 /// Rings as they were given: a flat list of numbers, and the vertices of each ring. The two need not fit each other.
@@ -50,7 +50,7 @@ impl Drawing<'_> {
     }
 
     fn repeated(&self, ring: usize) -> Option<String> {
-        let vertices = opened(points_of(self.ring(ring)?));
+        let vertices = points_of(opened(self.ring(ring)?));
         let next = |k: usize| (k + 1) % vertices.len();
         let k = (0..vertices.len()).find(|&k| vertices[k] == vertices[next(k)])?;
         let (second, name) = (next(k), drawn(ring));
@@ -62,8 +62,11 @@ impl Drawing<'_> {
     fn hole_outside(&self, hole: usize) -> Option<String> {
         let ring = hole.checked_add(1)?;
         let (outer, inner) = (self.outline(0)?, self.outline(ring)?);
-        if outer.clearance(&inner) == 0.0 {
-            Some(format!("ring {ring} crosses or touches ring 0"))
+        if let Some(met) = outer.meeting(&inner) {
+            let (one, other) = (met.edge_of_second(), met.edge_of_first());
+            Some(format!(
+                "edge {one} of ring {ring} crosses or touches edge {other} of ring 0"
+            ))
         } else if lies_inside(&outer, &inner) {
             Some(format!(
                 "ring {ring} lies around ring 0: the outer ring comes first"
@@ -80,8 +83,11 @@ impl Drawing<'_> {
     fn holes_touch(&self, first: usize, second: usize) -> Option<String> {
         let one = self.outline(first.checked_add(1)?)?;
         let other = self.outline(second.checked_add(1)?)?;
-        if one.clearance(&other) == 0.0 {
-            Some(format!("hole {first} crosses or touches hole {second}"))
+        if let Some(met) = one.meeting(&other) {
+            let (of_one, of_other) = (met.edge_of_first(), met.edge_of_second());
+            Some(format!(
+                "edge {of_one} of hole {first} crosses or touches edge {of_other} of hole {second}"
+            ))
         } else if lies_inside(&other, &one) {
             Some(format!("hole {second} lies inside hole {first}"))
         } else if lies_inside(&one, &other) {
@@ -140,21 +146,22 @@ impl Drawing<'_> {
         self.numbers.get(start.checked_mul(2)?..end.checked_mul(2)?)
     }
 
-    /// A ring as an outline: one that was drawn, or one that was handed in as it is.
+    /// A ring as an outline, not turned round, so that its edges have the numbers that they were given with: without a closing
+    /// repeat, as one that was drawn; or as it is, where it is none without it.
     fn outline(&self, ring: usize) -> Option<Outline> {
         let numbers = self.ring(ring)?;
-        Outline::from_numbers(numbers)
+        Outline::stored(opened(numbers))
             .or_else(|_| Outline::stored(numbers))
             .ok()
     }
 }
 
-/// The vertices without one closing repeat of the first.
-fn opened(mut vertices: Vec<Point>) -> Vec<Point> {
-    if vertices.len() > 1 && vertices.first() == vertices.last() {
-        vertices.pop();
+/// A ring's numbers without one closing repeat of the first vertex.
+fn opened(numbers: &[f64]) -> &[f64] {
+    match numbers.len().checked_sub(2) {
+        Some(last) if last > 0 && numbers[..2] == numbers[last..] => &numbers[..last],
+        _ => numbers,
     }
-    vertices
 }
 
 /// Of two outlines that share no point: does the first lie inside the second?

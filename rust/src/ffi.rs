@@ -39,6 +39,15 @@ pub(crate) struct LwLength {
 }
 
 #[repr(C)]
+pub(crate) struct LwMeeting {
+    pub refusal: usize,
+    pub meets: usize,
+    pub outer: usize,
+    pub inner: usize,
+    pub swapped: usize,
+}
+
+#[repr(C)]
 pub(crate) struct LwPoint {
     pub refusal: usize,
     pub east: f64,
@@ -89,6 +98,12 @@ extern "C" {
         second: *const f64,
         second_count: usize,
     ) -> LwLength;
+    pub(crate) fn lw_meeting(
+        first: *const f64,
+        first_count: usize,
+        second: *const f64,
+        second_count: usize,
+    ) -> LwMeeting;
     pub(crate) fn lw_vertex(outline: *const f64, count: usize, k: usize) -> LwPoint;
     pub(crate) fn lw_edge(outline: *const f64, count: usize, k: usize) -> LwEdge;
     pub(crate) fn lw_inset(

@@ -43,7 +43,8 @@ impl fmt::Display for Refusal {
 }
 
 impl Refusal {
-    /// The words where the rings that were refused are at hand, as they were given: "vertices 2 and 3 of hole 0 are the same point".
+    /// The words where the rings that were refused are at hand, as they were given: "vertices 2 and 3 of hole 0 are the same point",
+    /// "edge 0 of ring 1 crosses or touches edge 1 of ring 0".
     ///
     /// ```
     /// use lizardwire::Outline;

@@ -1,6 +1,6 @@
 //! Bad input and short output, and what the crate adds to the library.
 
-use lizardwire::{hypot, slices, Events, Nearest, Outline, Place, Point, Refusal, Region};
+use lizardwire::{hypot, slices, Events, Meeting, Nearest, Outline, Place, Point, Refusal, Region};
 
 const S: [f64; 8] = [0.0, 0.0, 4.0, 0.0, 4.0, 4.0, 0.0, 4.0];
 
@@ -53,6 +53,9 @@ fn a_shape_handed_in_that_is_none() {
         assert_eq!(slices::extent(shape), Err(refused));
         assert_eq!(slices::clearance(shape, &S), Err(refused));
         assert_eq!(slices::clearance(&S, shape), Err(refused));
+        assert_eq!(slices::meeting(shape, &S), Err(refused));
+        assert_eq!(slices::meeting(&S, shape), Err(refused));
+        assert_eq!(slices::meeting(shape, shape), Err(refused));
         assert_eq!(slices::vertex(shape, 0), Err(refused));
         assert_eq!(slices::vertex(shape, usize::MAX), Err(refused));
         assert_eq!(slices::edge(shape, 0), Err(refused));
@@ -147,6 +150,72 @@ fn clearance_of_one_outline_from_another() {
     assert_eq!(square.clearance(&apart), 5.0);
 }
 
+/// `outer`, `inner` and `swapped`; then the edges of the first outline and of the second.
+type Told = ((usize, usize, bool), (usize, usize));
+
+fn told(first: &[f64], second: &[f64]) -> Option<Told> {
+    let met = slices::meeting(first, second).unwrap()?;
+    let edges = (met.edge_of_first(), met.edge_of_second());
+    Some(((met.outer, met.inner, met.swapped), edges))
+}
+
+#[test]
+fn the_edges_of_two_outlines_that_meet() {
+    // Fewer vertices: in the outer walk, wherever it is named.
+    let triangle = [3.0, 3.0, 6.0, 3.0, 6.0, 6.0];
+    assert_eq!(told(&S, &triangle), Some(((0, 1, true), (1, 0))));
+    assert_eq!(told(&triangle, &S), Some(((0, 1, false), (0, 1))));
+    // As many: the first is in the outer walk. Its lowest edge that meets any is another than the one that the second's meets.
+    let hook = [2.0, 1.0, -2.0, 1.0, -2.0, 3.0, 6.0, 3.0];
+    assert_eq!(told(&S, &hook), Some(((1, 2, false), (1, 2))));
+    assert_eq!(told(&hook, &S), Some(((0, 3, false), (0, 3))));
+    let longer = [&hook[..], &[7.0, 2.0]].concat();
+    assert_eq!(told(&longer, &S), Some(((1, 2, true), (2, 1))));
+    // A corner on a corner, and a corner on an edge.
+    let corner = [4.0, 4.0, 9.0, 4.0, 9.0, 9.0];
+    assert_eq!(told(&S, &corner), Some(((0, 1, true), (1, 0))));
+    let tip = [9.0, 4.0, 4.0, 2.0, 9.0, 0.0];
+    assert_eq!(told(&S, &tip), Some(((0, 1, true), (1, 0))));
+    // Beside it, and inside.
+    for apart in [
+        [6.0, 0.0, 8.0, 0.0, 8.0, 4.0],
+        [1.0, 1.0, 3.0, 1.0, 2.0, 3.0],
+    ] {
+        assert_eq!(told(&S, &apart), None);
+        assert_eq!(told(&apart, &S), None);
+    }
+}
+
+/// As they are handed in: an outline that runs clockwise, a closing repeat, which counts, and the last of 128 edges.
+#[test]
+fn edges_are_counted_as_they_are_handed_in() {
+    let triangle = [3.0, 3.0, 6.0, 3.0, 6.0, 6.0];
+    let clockwise = [0.0, 0.0, 0.0, 4.0, 4.0, 4.0, 4.0, 0.0];
+    assert_eq!(told(&clockwise, &triangle), Some(((0, 2, true), (2, 0))));
+    let across = [-1.0, 1.0, 5.0, 1.0, 5.0, 2.0, -1.0, 2.0];
+    assert_eq!(told(&S, &across), Some(((1, 0, false), (1, 0))));
+    let closed = [&S[..], &[0.0, 0.0]].concat();
+    assert_eq!(told(&closed, &across), Some(((0, 1, true), (1, 0))));
+    let full = Outline::new(&comb(128)).unwrap();
+    let aside = [(-3.0, 5.0), (0.0, 6.0), (-3.0, 7.0)];
+    let met = full.meeting(&Outline::new(&aside).unwrap()).unwrap();
+    assert_eq!((met.edge_of_first(), met.edge_of_second()), (127, 0));
+    assert!(met.swapped);
+}
+
+/// Outlines meet where the one is 0 clear of the other.
+#[test]
+fn meeting_and_clearance() {
+    let square = Outline::from_numbers(&S).unwrap();
+    for east in 0..9 {
+        let moved = |v: &Point| (v.0 + f64::from(east), v.1);
+        let moved: Vec<Point> = square.vertices().iter().map(moved).collect();
+        let other = Outline::new(&moved).unwrap();
+        assert_eq!(square.meeting(&other).is_some(), east <= 4);
+        assert_eq!(square.clearance(&other) == 0.0, east <= 4);
+    }
+}
+
 #[test]
 fn an_inset_can_be_inset_again() {
     let corner = [(0.0, 0.0), (4.0, 0.0), (4.0, 4.0), (1.0, 4.0), (0.0, 3.0)];
@@ -208,6 +277,7 @@ fn what_is_kept_goes_from_thread_to_thread() {
     goes::<Refusal>();
     goes::<Place>();
     goes::<Nearest>();
+    goes::<Meeting>();
     goes::<Events>();
     goes::<slices::Rings>();
     goes::<slices::Stream>();

@@ -33,6 +33,8 @@ fn all_that_may_grow() {
         }
     }
     open.sort_unstable();
-    let known = ["Events", "Fed", "Nearest", "NotFed", "Place", "Refusal"];
+    let known = [
+        "Events", "Fed", "Meeting", "Nearest", "NotFed", "Place", "Refusal",
+    ];
     assert!(known.iter().all(|name| open.contains(name)), "{open:?}");
 }

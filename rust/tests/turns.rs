@@ -145,6 +145,8 @@ fn handed_in(ring: &[f64]) {
     assert_eq!(slices::contains(ring, (f64::NAN, 2.0)), Err(Refusal::Shape));
     assert_eq!(slices::nearest(ring, (2.0, 2.0)), Err(Refusal::Shape));
     assert_eq!(slices::area(ring), Err(Refusal::Shape));
+    assert_eq!(slices::meeting(ring, &S), Err(Refusal::Shape));
+    assert_eq!(slices::meeting(&S, ring), Err(Refusal::Shape));
     assert_eq!(slices::inset(ring, 1.0, &mut out).0, Err(Refusal::Shape));
     assert_eq!(slices::outset(ring, 1.0, &mut out).0, Err(Refusal::Shape));
     assert_eq!(out, [7.0; 256]);

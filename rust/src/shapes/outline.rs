@@ -2,7 +2,7 @@
 
 use super::{granted, numbers_of, points_of};
 use crate::refusal::Refusal;
-use crate::slices::{self, Events, Nearest, Place, Point};
+use crate::slices::{self, Events, Meeting, Nearest, Place, Point};
 
 /// Lent memory, long enough for any outline.
 fn room() -> [f64; crate::OUTLINE_NUMBERS] {
@@ -95,6 +95,27 @@ impl Outline {
     /// 0 if an edge of one meets an edge of the other.
     pub fn clearance(&self, other: &Self) -> f64 {
         granted(slices::clearance(&self.numbers, &other.numbers))
+    }
+
+    /// Two edges, one of this outline and one of another, that share a point, which is told exactly; none where no two do, as where
+    /// one outline lies inside the other. The outline of fewer vertices is in the outer walk, of two with as many this one:
+    /// [`Meeting`] has the lowest edge there that meets any of the other outline, and the lowest of the other that it meets.
+    ///
+    /// ```
+    /// use lizardwire::Outline;
+    ///
+    /// let square = Outline::new(&[(0.0, 0.0), (4.0, 0.0), (4.0, 4.0), (0.0, 4.0)])?;
+    /// let triangle = Outline::new(&[(3.0, 3.0), (6.0, 3.0), (6.0, 6.0)])?;
+    /// let met = square.meeting(&triangle).unwrap();
+    /// // The triangle has fewer vertices: it is in the outer walk.
+    /// assert_eq!((met.outer, met.inner, met.swapped), (0, 1, true));
+    /// assert_eq!(square.edge(met.edge_of_first()), Some(((4.0, 0.0), (4.0, 4.0))));
+    /// assert_eq!(triangle.edge(met.edge_of_second()), Some(((3.0, 3.0), (6.0, 3.0))));
+    /// assert_eq!(square.meeting(&square.inset(1.0)?), None);
+    /// # Ok::<(), lizardwire::Refusal>(())
+    /// ```
+    pub fn meeting(&self, other: &Self) -> Option<Meeting> {
+        granted(slices::meeting(&self.numbers, &other.numbers))
     }
 
     /// Where a point lies: 2. It is on the boundary if and only if it lies on an edge, with nothing rounded.

@@ -28,6 +28,33 @@ pub struct Nearest {
     pub point: Point,
 }
 
+/// Two edges that meet, one of each of two outlines.
+///
+/// The outline of fewer vertices is in the outer walk, of two with as many the first. So `outer` and `inner` are not in the order in
+/// which the outlines are named: [`edge_of_first`](Self::edge_of_first) and [`edge_of_second`](Self::edge_of_second) go by that.
+#[derive(Debug, Clone, Copy, PartialEq, Eq, Hash)]
+#[non_exhaustive]
+pub struct Meeting {
+    /// Of the outer walk, the lowest edge that meets any.
+    pub outer: usize,
+    /// Of the inner walk, the lowest edge that it meets.
+    pub inner: usize,
+    /// Whether the second outline, having fewer vertices, is in the outer walk.
+    pub swapped: bool,
+}
+
+impl Meeting {
+    /// The edge of the outline that is named first: of `self` in [`Outline::meeting`](crate::Outline::meeting).
+    pub fn edge_of_first(&self) -> usize {
+        [self.outer, self.inner][usize::from(self.swapped)]
+    }
+
+    /// The edge of the outline that is named second: of the other.
+    pub fn edge_of_second(&self) -> usize {
+        [self.inner, self.outer][usize::from(self.swapped)]
+    }
+}
+
 /// The completed events of an offset.
 #[derive(Debug, Clone, Copy, PartialEq, Eq, Hash, Default)]
 #[non_exhaustive]
@@ -92,6 +119,15 @@ pub(super) fn area(a: ffi::LwArea) -> Result<f64, Refusal> {
 
 pub(super) fn length(a: ffi::LwLength) -> Result<f64, Refusal> {
     Refusal::told(a.refusal, 0, 0, 0, 0.0).map(|()| a.length)
+}
+
+pub(super) fn meeting(a: ffi::LwMeeting) -> Result<Option<Meeting>, Refusal> {
+    let found = Meeting {
+        outer: a.outer,
+        inner: a.inner,
+        swapped: a.swapped == 1,
+    };
+    Refusal::told(a.refusal, 0, 0, 0, 0.0).map(|()| (a.meets == 1).then_some(found))
 }
 
 pub(super) fn offset(a: ffi::LwOffset) -> (Result<usize, Refusal>, Events) {

@@ -1,6 +1,6 @@
 //! Outlines as they are drawn, and outlines handed in.
 
-use super::answers::{self, Events, Nearest, Place, Point};
+use super::answers::{self, Events, Meeting, Nearest, Place, Point};
 use crate::ffi;
 use crate::refusal::Refusal;
 
@@ -54,6 +54,16 @@ pub fn clearance(first: &[f64], second: &[f64]) -> Result<f64, Refusal> {
     // SAFETY: both pointers lead to as many numbers as are said.
     answers::length(unsafe {
         ffi::lw_clearance(first.as_ptr(), first.len(), second.as_ptr(), second.len())
+    })
+}
+
+/// Two edges of two outlines handed in that meet, which is told exactly; none where no two do. The outline of fewer vertices is in
+/// the outer walk, of two with as many the first: [`Meeting`] has the lowest edge there that meets any of the other outline, and the
+/// lowest of the other that it meets: 21 of the first, then of the second.
+pub fn meeting(first: &[f64], second: &[f64]) -> Result<Option<Meeting>, Refusal> {
+    // SAFETY: both pointers lead to as many numbers as are said.
+    answers::meeting(unsafe {
+        ffi::lw_meeting(first.as_ptr(), first.len(), second.as_ptr(), second.len())
     })
 }
 

@@ -106,6 +106,21 @@ fn rings_of_either_kind() {
     let crossed = Outline::stored(&flat).unwrap();
     let refusal = Region::of_outlines(&outer, &[crossed]).unwrap_err();
     assert_eq!(refusal.in_drawing(&[outer.vertices(), bow]), apart);
+    // Without its closing repeat it would be no shape.
+    let back = vec![(0.0, 20.0), (4.0, 20.0), (0.0, 20.0)];
+    let stored = Outline::stored(&crate::shapes::flat(&[&back]).0).unwrap();
+    let refusal = Region::of_outlines(&outer, &[stored]).unwrap_err();
+    assert_eq!(refusal.in_drawing(&[outer.vertices(), back]), apart);
+    // In words a repeat is no vertex, drawn or handed in; for `meeting` it is one, and the other outline has fewer.
+    let closed = vec![(0.0, 0.0), (4.0, 0.0), (4.0, 4.0), (0.0, 4.0), (0.0, 0.0)];
+    let hook = vec![(2.0, 1.0), (-2.0, 1.0), (-2.0, 3.0), (6.0, 3.0)];
+    let [outer, inner] =
+        [&closed, &hook].map(|ring| Outline::stored(&crate::shapes::flat(&[ring]).0).unwrap());
+    let met = outer.meeting(&inner).unwrap();
+    assert_eq!((met.outer, met.inner, met.swapped), (0, 3, true));
+    let refusal = Region::of_outlines(&outer, &[inner]).unwrap_err();
+    let words = "edge 2 of ring 1 crosses or touches edge 1 of ring 0";
+    assert_eq!(refusal.in_drawing(&[closed, hook]), words);
 }
 
 /// A drawing that is not the one that was refused: the words are those without it.
