@@ -173,46 +173,6 @@ static void extent(void)
         CHECK(no_length(lw_extent(none[k].numbers, none[k].count)));
 }
 
-/* The distance of the vertex of the second outline that is nearest to the first. */
-static double vertex_by_vertex(const double *first, size_t first_count, const double *second, size_t second_count)
-{
-    double least = INFINITY;
-    for (size_t k = 0; k < second_count / 2; k++) {
-        LwPoint v = lw_vertex(second, second_count, k);
-        least = fmin(least, lw_nearest(first, first_count, v.east, v.north).distance);
-    }
-    return least;
-}
-
-/* The clearance of an outline of `count` numbers from the square, and of the square from it. */
-static void clear_by(const double *numbers, size_t count, double from_square, double of_square)
-{
-    CHECK(length_is(lw_clearance(square, COUNT(square), numbers, count), from_square));
-    CHECK(length_is(lw_clearance(numbers, count, square, COUNT(square)), of_square));
-}
-
-static void clearance(void)
-{
-    static const double beyond[] = {6, 0, 8, 0, 8, 4, 6, 4}, within[] = {1, 1, 3, 1, 3, 3, 1, 3};
-    /* The wedge's point is nearest, and it is the square's edge that is near it: its corners are farther. */
-    static const double wedge[] = {5, 2, 9, 0, 9, 4};
-    static const double high[] = {0.7, 11.3, 9.1, 10.2, 4.4, 17.9};
-    static const double touched[] = {4, 2, 9, 0, 9, 4}, across[] = {-1, 1, 5, 1, 5, 2, -1, 2};
-    clear_by(beyond, COUNT(beyond), 2, 2);
-    clear_by(within, COUNT(within), 1, lw_hypot(1, 1));
-    clear_by(wedge, COUNT(wedge), 1, lw_hypot(1, 2));
-    clear_by(touched, COUNT(touched), 0, 0);
-    clear_by(across, COUNT(across), 0, 0);
-    clear_by(square, COUNT(square), 0, 0);
-    CHECK(length_is(lw_clearance(high, COUNT(high), many, 256), vertex_by_vertex(high, COUNT(high), many, 256)));
-    CHECK(length_is(lw_clearance(many, 256, high, COUNT(high)), vertex_by_vertex(many, 256, high, COUNT(high))));
-    for (size_t k = 0; k < COUNT(none); k++) {
-        CHECK(no_length(lw_clearance(none[k].numbers, none[k].count, square, COUNT(square))));
-        CHECK(no_length(lw_clearance(square, COUNT(square), none[k].numbers, none[k].count)));
-        CHECK(no_length(lw_clearance(none[k].numbers, none[k].count, none[0].numbers, none[0].count)));
-    }
-}
-
 /* Whether edges meet, and which, worked out by a plain walk: of small whole numbers, where nothing is rounded. */
 static double turn(const double *a, const double *b, const double *c)
 {
@@ -319,6 +279,120 @@ static void meeting(void)
         GIVES(LwMeeting, lw_meeting(none[k].numbers, none[k].count, none[0].numbers, none[0].count), .refusal = 21);
     }
     drawn_meetings();
+}
+
+/* The distance of the vertex of the second outline that is nearest to the first. */
+static double vertex_by_vertex(const double *first, size_t first_count, const double *second, size_t second_count)
+{
+    double least = INFINITY;
+    for (size_t k = 0; k < second_count / 2; k++) {
+        LwPoint v = lw_vertex(second, second_count, k);
+        least = fmin(least, lw_nearest(first, first_count, v.east, v.north).distance);
+    }
+    return least;
+}
+
+/* What is due: 0 where edges meet, otherwise the least of both walks. */
+static double from_both_sides(const double *first, size_t first_count, const double *second, size_t second_count)
+{
+    if (lw_meeting(first, first_count, second, second_count).meets)
+        return 0;
+    return fmin(vertex_by_vertex(first, first_count, second, second_count), vertex_by_vertex(second, second_count, first, first_count));
+}
+
+/* The clearance of two outlines is that number, bit for bit, whichever is named first. */
+static int clear_by(const double *first, size_t first_count, const double *second, size_t second_count, double due)
+{
+    LwLength told = {.length = due}, a = lw_clearance(first, first_count, second, second_count);
+    LwLength b = lw_clearance(second, second_count, first, first_count);
+    return memcmp(&a, &told, sizeof a) == 0 && memcmp(&b, &told, sizeof b) == 0;
+}
+#define CLEAR_BY(first, second, due) CHECK(clear_by(first, COUNT(first), second, COUNT(second), due))
+
+/* Of drawn rings the clearance is the one from both sides. In many one side alone would not do. */
+static void drawn_clearances(void)
+{
+    size_t differ = 0, meet = 0, of_first = 0, of_second = 0;
+    for (size_t round = 0; round < 20000; round++) {
+        double first[16], second[16];
+        size_t n = 2 * (3 + round % 6), m = 2 * (3 + round / 6 % 6);
+        draw(first, n / 2, 0);
+        draw(second, m / 2, (double)(round % 23));
+        double due = from_both_sides(first, n, second, m);
+        differ += !clear_by(first, n, second, m, due);
+        meet += due == 0;
+        of_first += due != 0 && due < vertex_by_vertex(first, n, second, m);
+        of_second += due != 0 && due < vertex_by_vertex(second, m, first, n);
+    }
+    CHECK(differ == 0);
+    CHECK(meet > 2000 && of_first > 1500 && of_second > 1500);
+}
+
+/* The same of as many vertices as there is room for, twice: the comb, and below it the comb turned over, half a tooth to the side.
+ * In turn a tooth of either almost reaches the other. */
+static void full_clearances(void)
+{
+    size_t differ = 0, of_first = 0, of_second = 0;
+    for (size_t round = 0; round < 84; round++) {
+        double first[256], second[256];
+        for (size_t k = 0; k < 256; k++) {
+            first[k] = full()[k];
+            second[k] = k % 2 ? -full()[k] - 0.5 : full()[k] + 0.5;
+        }
+        if (round % 2)
+            first[2 * (round * 37 % 126) + 1] = -1.8;
+        else
+            second[2 * (round * 37 % 126) + 1] = 1.3;
+        double due = from_both_sides(first, 256, second, 256);
+        differ += due == 0 || !clear_by(first, 256, second, 256, due);
+        of_first += due < vertex_by_vertex(first, 256, second, 256);
+        of_second += due < vertex_by_vertex(second, 256, first, 256);
+    }
+    CHECK(differ == 0);
+    CHECK(of_first > 30 && of_second > 30);
+    CHECK(clear_by(full(), 256, full(), 256, 0) && clear_by(full(), 256, many, 256, 0));
+}
+
+static void clearance(void)
+{
+    /* The collar is 0.2 from the sleeve's spike; the collar's own vertices are farther from the sleeve. */
+    static const double collar[] = {-3, 0, 3, 0, 3, -2, -3, -2}, sleeve[] = {-5, 10, -1, 6, 0, 0.2, 1, 6, 5, 10};
+    /* Nearest to the square: an edge, a vertex alone, a closing edge alone. */
+    static const double beyond[] = {6, 0, 8, 0, 8, 4, 6, 4}, wedge[] = {5, 2, 9, 0, 9, 4}, wall[] = {10, 2, 12, 12, 2, 10};
+    /* Inside the square, by a vertex; and inside a notched one, by the notch. */
+    static const double within[] = {1, 1, 3, 1, 3, 3, 1, 3}, notched[] = {0, 0, 4, 0, 4, 4, 2, 3.25, 0, 4};
+    /* They meet, where a vertex of one lies on the other, and where no vertex of either is near the other. */
+    static const double corner[] = {4, 4, 9, 4, 9, 9}, touched[] = {4, 2, 9, 0, 9, 4}, bar[] = {-3, 1, 7, 1, 7, 3, -3, 3};
+    static const double high[] = {0.7, 11.3, 9.1, 10.2, 4.4, 17.9};
+    /* The least double apart; and not at all, as far as the computed gap can tell, though they do not meet. */
+    static const double upright[] = {5e-324, -1, 1, -1, 1, 1, 5e-324, 1}, sloping[] = {5e-324, 0, 1, 0, 1, 1};
+    static const double tip[] = {0, 0, -1, 1, -1, -1};
+    static const double low[] = {-1e9, -1e9, -1e9, 0, 0, -1e9}, far_up[] = {1e9, 1e9, 0, 1e9, 1e9, 0};
+    CLEAR_BY(collar, sleeve, 0.2);
+    CHECK(vertex_by_vertex(collar, COUNT(collar), sleeve, COUNT(sleeve)) == 0.2);
+    CHECK(vertex_by_vertex(sleeve, COUNT(sleeve), collar, COUNT(collar)) > 2.9);
+    CLEAR_BY(square, beyond, 2);
+    CLEAR_BY(square, wedge, 1);
+    CLEAR_BY(square, wall, lw_hypot(2, 2));
+    CLEAR_BY(clockwise, wall, lw_hypot(2, 2));
+    CLEAR_BY(square, within, 1);
+    CLEAR_BY(notched, within, 0.25);
+    CLEAR_BY(square, square, 0);
+    CLEAR_BY(square, corner, 0);
+    CLEAR_BY(square, touched, 0);
+    CLEAR_BY(square, bar, 0);
+    CLEAR_BY(upright, tip, 5e-324);
+    CLEAR_BY(sloping, tip, 0);
+    GIVES(LwMeeting, lw_meeting(sloping, COUNT(sloping), tip, COUNT(tip)), .meets = 0);
+    CLEAR_BY(low, far_up, lw_hypot(1e9, 1e9));
+    CHECK(clear_by(high, COUNT(high), many, 256, from_both_sides(high, COUNT(high), many, 256)));
+    for (size_t k = 0; k < COUNT(none); k++) {
+        CHECK(no_length(lw_clearance(none[k].numbers, none[k].count, square, COUNT(square))));
+        CHECK(no_length(lw_clearance(square, COUNT(square), none[k].numbers, none[k].count)));
+        CHECK(no_length(lw_clearance(none[k].numbers, none[k].count, none[0].numbers, none[0].count)));
+    }
+    drawn_clearances();
+    full_clearances();
 }
 
 /* From the last vertex on there is none. */

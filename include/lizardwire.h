@@ -130,9 +130,9 @@ static inline const char *lw_words(size_t refusal) {
     }
 }
 
-/* The version of this header. It goes up with every function that is added; one that is
- * here stays as it is for as long as the number in the shared library's name does. */
-#define LW_VERSION 2
+/* The version of this header. It goes up with every function that is added or changed; one
+ * that is here stays as it is for as long as the number in the shared library's name does. */
+#define LW_VERSION 3
 
 /* The most that a shape holds. */
 #define LW_VERTICES 128      /* an outline, or the outer ring of a region */
@@ -246,7 +246,7 @@ typedef struct LwFed {
 } LwFed;
 
 /* The version of the library that is linked: LW_VERSION as it was built. One below that of
- * this header is an older library, in which functions can be missing. */
+ * this header is an older library, in which functions can be missing or answer otherwise. */
 size_t lw_version(void);
 
 /* The double nearest to the root of x*x + y*y, ties to even. hypot(0, 0) is 0;
@@ -290,9 +290,11 @@ LwLength lw_perimeter(const double *outline, size_t count);
 /* The largest absolute coordinate. Refusals: 21. */
 LwLength lw_extent(const double *outline, size_t count);
 
-/* The clearance of the second outline from the first: the least distance from a vertex
- * of the second to an edge of the first, and 0 if an edge of one meets an edge of the
- * other. Refusals: 21 of the first, then of the second. */
+/* The clearance of two outlines: the least distance from a vertex of either to an edge of the
+ * other, and 0 if an edge of one meets an edge of the other. It is the same, bit for bit,
+ * whichever is named first. One outline inside the other is measured the same way. Each
+ * distance is that of lw_nearest, which also says where it is. It can round to 0 where the
+ * outlines do not meet: lw_meeting tells. Refusals: 21 of the first, then of the second. */
 LwLength lw_clearance(const double *first, size_t first_count, const double *second, size_t second_count);
 
 /* Does an edge of one outline meet an edge of the other, and which two are the first that do?

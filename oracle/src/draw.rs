@@ -10,6 +10,12 @@ impl Draw {
         Self(seed)
     }
 
+    /// Draws for one place of a seed's list.
+    pub fn at(seed: u64, index: u64) -> Self {
+        let start = Self::new(seed).bits();
+        Self::new(start ^ index.wrapping_mul(0xd134_2543_de82_ef95))
+    }
+
     /// The next 64 bits.
     pub fn bits(&mut self) -> u64 {
         self.0 = self.0.wrapping_add(0x9e37_79b9_7f4a_7c15);

@@ -42,7 +42,7 @@ pub enum Question {
     Nearest(Shape, [f64; 2]),
     /// Area, perimeter and extent.
     Measures(Shape),
-    /// The clearance of the second from the first.
+    /// The clearance of two outlines.
     Clearance(Shape, Shape),
     /// Edge k.
     Edge(Shape, u64),
@@ -345,21 +345,19 @@ fn measures(shape: &Shape) -> Vec<u64> {
     }
 }
 
-/// The least gap over the second's vertices against the first's edges, 0 if
-/// the rings meet; an infinite one reads 0.
+/// R-1: "the least gap over the vertices of each against the edges of the
+/// other, still 0 if the rings meet". An infinite one reads 0.
 fn clearance(first: &Shape, second: &Shape) -> Vec<u64> {
     let outlines = proper_outline(first).and_then(|first| Ok((first, proper_outline(second)?)));
     match outlines {
         Err(refusal) => vec![u64::from(refusal.number), 0],
         Ok((first, second)) => {
             let mut least = f64::INFINITY;
-            for vertex in second.vertices() {
-                let gap = first.oracle_gap(*vertex);
-                if gap < least {
-                    least = gap;
-                }
+            for (each, other) in [(&first, &second), (&second, &first)] {
+                let gaps = each.vertices().iter().map(|v| other.oracle_gap(*v));
+                least = gaps.fold(least, f64::min);
             }
-            let free = least.is_finite() && !second.oracle_meets(&first);
+            let free = least.is_finite() && !first.oracle_meets(&second);
             vec![0, if free { bits(least) } else { 0 }]
         }
     }

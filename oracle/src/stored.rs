@@ -4,7 +4,7 @@
 use std::collections::BTreeMap;
 
 use crate::answer::{answer_line, Answer};
-use crate::generate::{self, offset, pair, question, region, turning};
+use crate::generate::{self, clearance, offset, pair, question, region, turning};
 use crate::job::{Job, LONGEST};
 use crate::outlines::{new_outline, numbers_of, Question, Shape};
 use crate::regions::{Changed, Given};
@@ -118,12 +118,18 @@ fn shape(numbers: &[f64]) -> Shape {
     }
 }
 
+/// A collar, and a sleeve with a spike toward its upper edge; as they are
+/// stored.
+pub const COLLAR: &[f64] = &[-3.0, 0.0, -3.0, -2.0, 3.0, -2.0, 3.0, 0.0];
+pub const SLEEVE: &[f64] = &[-5.0, 10.0, -1.0, 6.0, 0.0, 0.2, 1.0, 6.0, 5.0, 10.0];
+
 /// Questions that no job asks, as docs/DIFFERENCES.md has them.
 pub fn chosen_questions() -> Vec<Question> {
-    // Rounded turns tell all of these points and rings otherwise: inside,
-    // outside, twice on the boundary; apart, and together.
+    // Rounded turns tell all of these points otherwise: inside, outside, twice
+    // on the boundary.
     let place = |ring: [f64; 6], point| Question::Contains(shape(&ring), point);
-    let clear = |a: [f64; 6], b: [f64; 6]| Question::Clearance(shape(&a), shape(&b));
+    let clear = |a: &[f64], b: &[f64]| Question::Clearance(shape(a), shape(b));
+    let either = |a: &[f64], b: &[f64]| [clear(a, b), clear(b, a)];
     // The middle of the hole's first edge, on it exactly, is told outside.
     let given = Given {
         lengths: vec![3, 3],
@@ -143,34 +149,44 @@ pub fn chosen_questions() -> Vec<Question> {
         ],
     };
     let middle = [11.02931577694693, 3.9440986027311355];
-    vec![
+    let mut asked = vec![
         place([0.1, 0.4, 0.2, 0.4, 0.3, 0.2], [0.2, 0.3]),
         place([0.0, 0.4, 0.3, 0.1, 0.3, 0.0], [0.2, 0.2]),
         place([0.1, 0.2, 0.1, 0.4, 0.4, 0.7], [0.2, 0.5]),
         place([0.1, 0.2, 0.0, 0.2, 0.7, 0.6], [0.4, 0.4]),
-        clear(
-            [0.2, 0.2, 0.2, 0.3, 0.0, 0.2],
-            [0.3, 0.4, 0.1, 0.4, 0.3, 0.2],
-        ),
-        clear(
-            [0.0, 0.2, 0.1, 0.2, 0.2, 0.4],
-            [0.3, 0.4, 0.0, 0.1, 0.4, 0.1],
-        ),
-        Question::RegionPoint(given, middle, Changed { place: 0, value: 0 }),
-    ]
+    ];
+    // And the first two of these pairs: apart, and together. Of the third, apart
+    // as well, a gap rounds to 0.
+    asked.extend(either(
+        &[0.0, 0.0, 0.2, 0.1, 0.0, 0.1],
+        &[0.1, 0.0, 0.2, 0.0, 0.4, 0.3],
+    ));
+    asked.extend(either(
+        &[0.0, 0.0, 0.3, 0.4, 0.0, 0.1],
+        &[0.0, 0.2, 0.1, 0.2, 0.0, 0.3],
+    ));
+    asked.extend(either(
+        &[0.2, 0.2, 0.2, 0.3, 0.0, 0.2],
+        &[0.3, 0.4, 0.1, 0.4, 0.3, 0.2],
+    ));
+    asked.extend(either(COLLAR, SLEEVE));
+    let whole = Changed { place: 0, value: 0 };
+    asked.push(Question::RegionPoint(given, middle, whole));
+    asked
 }
 
 /// The questions of the stored list: 700 of each of the seeds 1, 2 and 3, 700
 /// offsets of seed 27, 500 questions about regions of seed 200, 450 about
-/// points of seed 1, 400 about pairs of rings of seed 1, the chosen jobs: of
-/// one ring as an offset, or as an outline where that is refused, of more as
-/// an inset of a region; and the chosen questions.
+/// points of seed 1, 400 about pairs of rings of seed 1, 400 about clearances of
+/// seed 1, the chosen jobs: of one ring as an offset, or as an outline where that
+/// is refused, of more as an inset of a region; and the chosen questions.
 pub fn questions() -> impl Iterator<Item = Question> {
     let asked = (1..=3).flat_map(|seed| (0..700).map(move |index| question(seed, index)));
     let asked = asked.chain((0..700).map(|index| offset(27, index)));
     let asked = asked.chain((0..500).map(|index| region(200, index)));
     let asked = asked.chain((0..450).map(|index| turning(1, index)));
     let asked = asked.chain((0..400).map(|index| pair(1, index)));
+    let asked = asked.chain((0..400).map(|index| clearance(1, index)));
     let asked = asked.chain(chosen().map(|line| {
         let job = Job::read(line).expect("a chosen job");
         Question::of_job(&job)

@@ -4,10 +4,12 @@
 //! Of a question of each kind, granted and refused, or answered with 0 and with
 //! another number, every field of the answer is wrong once, the others being
 //! right; and once each it has a field too many and one too few. Pairs of rings
-//! have the answers of other readings as well. Some lines cannot be read at all.
+//! and clearances have the answers of other readings as well. Some lines cannot
+//! be read at all.
 
 use crate::outlines::{Question, Shape, KINDS};
 use crate::regions::{Changed, Given};
+use crate::stored::{COLLAR, SLEEVE};
 
 /// A triangle, and a square of side 10.
 const TRIANGLE: &[f64] = &[0.0, 0.0, 4.0, 0.0, 0.0, 3.0];
@@ -83,9 +85,12 @@ pub fn asked() -> Vec<Question> {
     ]
 }
 
+/// The name of another reading, a question, and the answer that it has there.
+pub type Misread<const FIELDS: usize> = (&'static str, Question, [u64; FIELDS]);
+
 /// Pairs of rings with the answers of other readings: of which ring is in the
 /// outer walk, of which edge stands first, of which edge is found.
-pub fn misread() -> Vec<(&'static str, Question, [u64; 5])> {
+pub fn misread_pairs() -> Vec<Misread<5>> {
     // Of the pointed one edge 0 meets edge 3 of the square, 1 meets 0 and 3, 2
     // meets 0: it is in the outer walk, and the pair is 0 and 3.
     let pointed = [5.0, 5.0, -5.0, 5.0, 5.0, -4.0];
@@ -108,6 +113,42 @@ pub fn misread() -> Vec<(&'static str, Question, [u64; 5])> {
         ("swapped told wrongly", second(), [0, 1, 0, 3, 0]),
         ("swapped told wrongly", first(), [0, 1, 0, 3, 1]),
         ("swapped told wrongly", alike(), [0, 1, 1, 1, 1]),
+    ]
+}
+
+/// Clearances with the answers of other readings: of whose vertices are
+/// measured, of which gap is told, of what is asked before.
+pub fn misread_clearances() -> Vec<Misread<2>> {
+    let clear = |a: &[f64], b: &[f64]| Question::Clearance(shape(a), shape(b));
+    let told = |name, asked, gap: f64| (name, asked, [0, gap.to_bits()]);
+    // Two with a spike toward a side of the square, 0.5 from it: one within, one
+    // outside at the closing edge. Bars that cross. Two vertices alone.
+    let within = &[3.0, 4.0, 9.5, 5.0, 3.0, 6.0];
+    let outside = &[-0.5, 5.0, -3.0, 6.0, -3.0, 4.0];
+    let level = &[-3.0, -1.0, 3.0, -1.0, 3.0, 1.0, -3.0, 1.0];
+    let upright = &[-1.0, -3.0, 1.0, -3.0, 1.0, 3.0, -1.0, 3.0];
+    let few = &[20.0, 0.0, 24.0, 0.0];
+    let named = || clear(COLLAR, SLEEVE);
+    let exchanged = || clear(SLEEVE, COLLAR);
+    let by_collar = 2.9903617305345733;
+    vec![
+        told("the first's vertices alone", named(), by_collar),
+        told("the second's vertices alone", exchanged(), by_collar),
+        told("the greatest gap", named(), 10.198039027185569),
+        told("the greatest gap", exchanged(), 10.198039027185569),
+        told("between vertices", named(), 3.006659275674582),
+        told("between vertices", exchanged(), 3.006659275674582),
+        told("from itself", named(), 0.0),
+        told("from itself", exchanged(), 0.0),
+        told("the greater side", clear(SQUARE, within), 5.0),
+        told("the greater side", clear(within, SQUARE), 5.0),
+        told("0 within", clear(SQUARE, within), 0.0),
+        told("0 within", clear(within, SQUARE), 0.0),
+        told("no closing edge", clear(SQUARE, outside), 4.828078792603348),
+        told("no closing edge", clear(outside, SQUARE), 4.828078792603348),
+        told("meeting not asked", clear(level, upright), 2.0),
+        told("21 not asked", clear(TRIANGLE, few), 16.0),
+        told("21 not asked", clear(few, TRIANGLE), 16.0),
     ]
 }
 
@@ -147,8 +188,11 @@ pub fn lines() -> Vec<(Option<usize>, String)> {
             lines.push((Some(question.kind()), question.line_with(&answer)));
         }
     }
-    let misread = misread().into_iter();
-    lines.extend(misread.map(|(_, asked, told)| (Some(asked.kind()), asked.line_with(&told))));
+    let line = |asked: &Question, told: &[u64]| (Some(asked.kind()), asked.line_with(told));
+    let pairs = misread_pairs().into_iter();
+    lines.extend(pairs.map(|(_, asked, told)| line(&asked, &told)));
+    let clearances = misread_clearances().into_iter();
+    lines.extend(clearances.map(|(_, asked, told)| line(&asked, &told)));
     lines.extend(unread().map(|line| (None, line)));
     lines
 }

@@ -7,9 +7,8 @@ use std::collections::BTreeSet;
 
 use cases::Cases;
 use oracle::outlines::{Outline, Question, Shape};
-use oracle::region::{Containment, PlanarPoint};
 use oracle::{stored, turns, wrong};
-use rings::{as_it_should, edges, given, made, meetings, Edge};
+use rings::{as_it_should, edges, given, holds, made, meetings, refused_cases, Edge};
 
 const S: &[[f64; 2]] = &[[0.0, 0.0], [4.0, 0.0], [4.0, 4.0], [0.0, 4.0]];
 
@@ -67,20 +66,6 @@ fn bounds(vertices: &[[f64; 2]]) -> [[f64; 2]; 2] {
     [
         [0, 1].map(|k| axis(k).fold(f64::INFINITY, f64::min)),
         [0, 1].map(|k| axis(k).fold(f64::NEG_INFINITY, f64::max)),
-    ]
-}
-
-/// Whether question 21 refuses a shape.
-fn improper(one: &Shape) -> bool {
-    Question::Pair(one.clone(), shape(S)).answer()[0] == 21
-}
-
-/// What a refused question is an instance of.
-fn refused_cases(first: &Shape, second: &Shape) -> Vec<(&'static str, bool)> {
-    vec![
-        ("21 of the first", !improper(second)),
-        ("21 of the second", !improper(first)),
-        ("21 of both", improper(first) && improper(second)),
     ]
 }
 
@@ -144,11 +129,8 @@ fn ring_cases(first: &Shape, second: &Shape, answer: &[u64]) -> Vec<(&'static st
     let shared = outside
         .iter()
         .any(|[v, _]| inside.iter().any(|[w, _]| v == w));
-    let holds = |ring: &Shape, [[east, north], _]: Edge| {
-        let point = PlanarPoint::from_metres(east, north).expect("finite");
-        made(ring).is_some_and(|(ring, _)| ring.contains(point) == Containment::Inside)
-    };
-    let [second_within, first_within] = [holds(first, rings[1][0]), holds(second, rings[0][0])];
+    let second_within = holds(first, rings[1][0][0]);
+    let first_within = holds(second, rings[0][0][0]);
     let within = second_within || first_within;
     let [low, high] = bounds(outside.as_flattened());
     let at_side = |edge: &Edge, beyond: fn(f64, f64) -> bool| {
@@ -240,7 +222,7 @@ fn reading(name: &str, first: &Shape, second: &Shape) -> Vec<u64> {
 fn misread_pairs_are_what_they_are_named_by() {
     let lines = wrong::lines();
     let mut names = BTreeSet::new();
-    for (name, asked, told) in wrong::misread() {
+    for (name, asked, told) in wrong::misread_pairs() {
         let Question::Pair(first, second) = &asked else {
             panic!("{name}");
         };

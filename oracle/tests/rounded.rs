@@ -6,7 +6,7 @@ use oracle::answer::answer_line;
 use oracle::job::Job;
 use oracle::outlines::{new_outline, numbers_of, Outline, Question, Shape};
 use oracle::{stored, turns};
-use rings::as_it_should;
+use rings::{as_it_should, the_same_in_either_order};
 
 type Ring<'a> = &'a [[f64; 2]];
 
@@ -69,6 +69,7 @@ fn the_choice() {
     rows(false);
     // The lowest pair all the same; of some stored pairs another one, or none.
     as_it_should();
+    the_same_in_either_order();
     let both = || exactly.iter().zip(edges()).filter(|(a, b)| *a != b);
     assert!(both().any(|(a, b)| a[1] == b[1]));
     assert!(both().any(|(a, b)| a[1] != b[1]));
@@ -76,9 +77,30 @@ fn the_choice() {
     exact();
 }
 
+/// The chosen clearances, in both orders, each with whether the rings meet.
+fn clearances(exact: bool) {
+    let mut told = Vec::new();
+    for asked in stored::chosen_questions() {
+        if let Question::Clearance(first, second) = &asked {
+            let met = Question::Pair(first.clone(), second.clone()).answer()[1] == 1;
+            told.push((f64::from_bits(asked.answer()[1]), met));
+        }
+    }
+    let short = 3.925231146709438e-17;
+    let (apart, together) = ((short, false), (0.0, true));
+    let due = if exact {
+        [apart, together]
+    } else {
+        [together, apart]
+    };
+    let due = [due[0], due[1], (0.0, !exact), (0.2, false)];
+    assert_eq!(told, due.map(|row| [row; 2]).as_flattened());
+}
+
 /// Rows of docs/DIFFERENCES.md that the tests from C, Rust and Python ask:
-/// places of points, and regions.
+/// places of points, and regions; and clearances.
 fn rows(exact: bool) {
+    clearances(exact);
     let pick = |one: u64, other: u64| if exact { one } else { other };
     let points: [(Ring, [f64; 2], u64); 4] = [
         (

@@ -28,10 +28,10 @@ ordinary Python over it, from 3.9 on, and needs nothing else. ``python -m lizard
 from ._library import LibraryMissing
 from .jobs import Answer, Job, Stream, answer_line, read_jobs, write_jobs
 from .refusals import Refused
-from .shapes import Cage, Events, Meeting, Nearest, Outline, Place, Region, hypot, inset, outset, version
+from .shapes import Cage, Events, Meeting, Nearest, NearestPoints, Outline, Place, Region, hypot, inset, outset, version
 
 __all__ = [
-    "Answer", "Cage", "Events", "Job", "LibraryMissing", "Meeting", "Nearest", "Outline", "Place", "Refused",
+    "Answer", "Cage", "Events", "Job", "LibraryMissing", "Meeting", "Nearest", "NearestPoints", "Outline", "Place", "Refused",
     "Region", "Stream", "answer_line", "hypot", "inset", "outset", "read_jobs", "version", "write_jobs",
 ]
-__version__ = "0.2.0"
+__version__ = "0.3.0"

@@ -8,12 +8,12 @@ import sys
 from typing import Any, Iterator, List, NoReturn, Optional, Sequence, Tuple
 
 from . import __version__, svg
-from .draw import Item, clean, in_place, picture
+from .draw import Item, clean, clearance_picture, in_place, picture
 from .files import INPUT, OUTPUT, Output, Unsayable, apart, blocks, read_all
 from .jobs import Answer, Job, Stream
 from .progress import Progress
-from .refusals import Refused, short
-from .shapes import inset, outset, version
+from .refusals import Refused, exact
+from .shapes import Outline, Point, inset, outset, version
 
 MOST = 60
 
@@ -33,6 +33,11 @@ OFFSET = """The cage {where} an outline. Each RING is one word, its vertices par
 east from north by a comma: "0,0 4,0 4,4 0,4". Prints a line for each ring of the cage,
 in the same form."""
 
+CLEARANCE = """How far two outlines are apart: the least distance from a vertex of either to an edge of
+the other, and 0 where they meet. Each OUTLINE is one word, with a name before it or without:
+"collar=-3,0 3,0 3,-2 -3,-2". Prints the clearance and, where they do not meet, the nearest
+point of each."""
+
 
 def complain(words: str) -> None:
     """A line on standard error, where there is one."""
@@ -42,6 +47,11 @@ def complain(words: str) -> None:
     except OSError:
         # The interpreter would try once more as it ends, and give a status of its own.
         sys.stderr = open(os.devnull, "w", encoding="utf-8")
+
+
+def no(refusal: Refused) -> str:
+    """A refusal in a line."""
+    return f"no, {refusal.number}: {refusal.words}"
 
 
 def count(text: str) -> int:
@@ -87,7 +97,7 @@ class Parser(argparse.ArgumentParser):
 def parser() -> argparse.ArgumentParser:
     """The command line."""
     top = Parser(prog="python -m lizardwire", description=ABOUT,
-                 epilog="Status: 0 all done; 1 an inset or outset was refused, or part of a drawing was not read or not drawn; "
+                 epilog="Status: 0 all done; 1 an outline, inset or outset was refused, or part of a drawing was not read or not drawn; "
                         "2 it failed. A refused job is an answer, and not a failure. A file that is written is put in place at the "
                         "end: after a failure it is as it was.")
     top.add_argument("--version", action=Version, nargs=0, help="the package's version and the library's")
@@ -121,6 +131,12 @@ def parser() -> argparse.ArgumentParser:
         offset.add_argument("rings", metavar="RING", nargs="+" if name == "inset" else 1,
                             help="the outline" + (", then its holes" if name == "inset" else ""))
         offset.set_defaults(run=run_offset)
+
+    clear = each.add_parser("clearance", help="how far two outlines are apart", description=CLEARANCE)
+    clear.add_argument("outlines", metavar="OUTLINE", nargs=2, help="its vertices, after a name and = or without")
+    clear.add_argument("-o", "--output", metavar="OUT", help="write a picture of both and their nearest points to this file, too; "
+                                                              "- prints it in place of the line")
+    clear.set_defaults(run=run_clearance)
     return top
 
 
@@ -335,7 +351,7 @@ def put_answers(out: Output, answers: bytes, taken: int, progress: Progress) -> 
     progress.step(taken, answers.count(b"\n"))
 
 
-# ---- inset, outset
+# ---- inset, outset, clearance
 
 def point_of(pair: str) -> Tuple[float, float]:
     """A point of a ring."""
@@ -355,14 +371,30 @@ def run_offset(words: argparse.Namespace) -> int:
     """The commands inset and outset."""
     offset = inset if words.command == "inset" else outset
     cage = offset([ring_of(text) for text in words.rings], words.distance)
-    put((None, "".join(" ".join(f"{plain(east)},{plain(north)}" for east, north in ring) + "\n" for ring in cage)))
+    put((None, "".join(" ".join(map(plain_point, ring)) + "\n" for ring in cage)))
     return 0
 
 
-def plain(number: float) -> str:
-    """The shortest digits that read back as the same number."""
-    text = short(number)
-    return text if float(text) == number else repr(number)
+def run_clearance(words: argparse.Namespace) -> int:
+    """The command clearance."""
+    (one, _, first), (two, _, second) = (text.rpartition("=") for text in words.outlines)
+    names, outlines = (one or "first", two or "second"), []
+    for name, text in zip(names, (first, second)):
+        try:
+            outlines.append(Outline(ring_of(text)))
+        except Refused as refusal:
+            complain(f"{name}: {no(refusal)}")
+            return 1
+    near = outlines[0].nearest_points(outlines[1])
+    line = " ".join([exact(outlines[0].clearance(outlines[1])), *(map(plain_point, near[1:]) if near else ())]) + "\n"
+    drawn = [(words.output, clearance_picture(outlines[0], outlines[1], names))] if words.output is not None else []
+    put(*drawn, *([(None, line)] if words.output != "-" else []))
+    return 0
+
+
+def plain_point(point: Point) -> str:
+    """A point of a ring, as it is read."""
+    return f"{exact(point[0])},{exact(point[1])}"
 
 
 # ---- all of them
@@ -402,7 +434,7 @@ def main(arguments: Optional[Sequence[str]] = None) -> int:
     try:
         return command(arguments)
     except Refused as refusal:
-        complain(f"no, {refusal.number}: {refusal.words}")
+        complain(no(refusal))
         return 1
     except KeyboardInterrupt:
         return 130

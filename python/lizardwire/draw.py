@@ -1,17 +1,18 @@
-"""Pictures: each outline with its cage, as one SVG, side by side or each in its place.
+"""Pictures: each outline with its cage, as one SVG, side by side or each in its place; and two outlines with their clearance.
 
-Nothing is worked out here: what is drawn as a cage is what the answer says. A picture
-is as wide as what it is shown in, up to its own greatest width. Its words come in two
-sizes, one for a phone and one for anything wider; which is shown is left to the
-screen, and room is kept for the larger. Light and dark follow the screen, too.
+Nothing is worked out here: what is drawn as a cage is what the answer says, and where
+two outlines come nearest is what the library says. A picture is as wide as what it is
+shown in, up to its own greatest width. Its words come in two sizes, one for a phone and
+one for anything wider; which is shown is left to the screen, and room is kept for the
+larger. Light and dark follow the screen, too.
 """
 import math
 from typing import Callable, Dict, Iterable, List, NamedTuple, Optional, Sequence, Tuple
 from xml.sax.saxutils import escape, quoteattr
 
 from .jobs import Answer
-from .refusals import Pair, short
-from .shapes import Point, Ring
+from .refusals import Pair, RingEdge, exact, short
+from .shapes import Outline, Point, Ring, _outline
 
 CELL, GAP, MARGIN = 320, 20, 20
 ONE_CELL = 420
@@ -129,9 +130,9 @@ def wrap(text: str, size: float, room: float) -> List[str]:
     return lines
 
 
-def pair_words(pair: Pair) -> str:
-    """Two edges that cross or touch, by the numbers of their rings in what was given."""
-    return " meets ".join(f"edge {edge} of ring {ring}" for ring, edge in pair)
+def pair_words(pair: Pair, names: Sequence[str] = ()) -> str:
+    """Two edges that cross or touch, by the names of their rings, or by their numbers in what was given."""
+    return " meets ".join(f"edge {edge} of {clean(names[ring]) if names else f'ring {ring}'}" for ring, edge in pair)
 
 
 class Line(NamedTuple):
@@ -162,6 +163,7 @@ def finite(rings: Iterable[Ring]) -> List[Ring]:
 
 
 Segment = Tuple[Point, Point]
+Box = Tuple[float, float, float, float]
 Placing = Callable[[Point], Point]
 
 
@@ -172,6 +174,20 @@ def placing(rings: Sequence[Ring], left: float, top: float, wide: float, high: f
     middle = (min(east) + max(east)) / 2, (min(north) + max(north)) / 2
     turn = -scale if up else scale
     return lambda p: (left + wide / 2 + (p[0] - middle[0]) * scale, top + high / 2 + (p[1] - middle[1]) * turn)
+
+
+def within(ring: Ring, far: float) -> Ring:
+    """The part of a ring that is no farther east, west, north and south than that, closed along the border."""
+    for axis, way in ((0, 1), (0, -1), (1, 1), (1, -1)):
+        kept: Ring = []
+        for p, q in zip(ring, ring[1:] + ring[:1]):
+            a, b = far - way * p[axis], far - way * q[axis]
+            if a >= 0:
+                kept.append(p)
+            if (a < 0) != (b < 0):
+                kept.append((p[0] + (q[0] - p[0]) * a / (a - b), p[1] + (q[1] - p[1]) * a / (a - b)))
+        ring = kept
+    return ring
 
 
 def path(rings: Iterable[Ring], place: Placing) -> str:
@@ -214,7 +230,7 @@ PLACES = [*((t, 0.0, side) for t in (0.5, 0.38, 0.62, 0.26, 0.74, 0.14, 0.86) fo
 
 
 def beside(edge: Segment, other: Segment, text: str, size: float, walls: Sequence[Segment], spot: Point,
-           taken: Sequence[Tuple[Point, str]], box: Tuple[float, float, float, float]) -> Point:
+           taken: Sequence[Tuple[Point, str]], box: Box) -> Point:
     """A place for a number beside an edge: clear of all edges, of the spot and of what is taken, inside the box, and not at the other."""
     (ax, ay), (bx, by) = edge
     length, half = math.dist(*edge) or 1.0, width(text, size, True) / 2
@@ -291,17 +307,17 @@ def marks(page: Page, item: Item, place: Placing, left: float, top: float) -> No
     pair = item.pair()
     marked = [item.rings[hole + 1] for hole in item.failing_holes() if hole + 1 < len(item.rings)]
     if pair:
-        crossing(page, item, pair, place, (left, top, left + page.cell, top + page.high))
+        crossing(page, item.rings, pair, pair_words(pair), place, (left, top, left + page.cell, top + page.high))
     elif marked:
         page.shapes.append(f'<path class="mark" d="{path(marked, place)}"/>')
 
 
-def crossing(page: Page, item: Item, pair: Pair, place: Placing, box: Tuple[float, float, float, float]) -> None:
-    """Two edges that cross or touch: drawn thick, the place ringed, their numbers beside them."""
-    rings = [[place(p) for p in ring] for ring in item.rings]
+def crossing(page: Page, given: Sequence[Ring], pair: Pair, words: str, place: Placing, box: Box) -> None:
+    """Two edges that cross or touch: drawn thick, the place ringed, their numbers beside them, the words where it is pointed at."""
+    rings = [[place(p) for p in ring] for ring in given]
     edges = [ends(rings[ring], edge) for ring, edge in pair]
     spot = meeting(*edges[0], *edges[1])
-    page.shapes += [f"<g><title>{pair_words(pair)}</title>",
+    page.shapes += [f"<g><title>{escape(words)}</title>",
                     *('<path class="mark" d="M{:.2f} {:.2f}L{:.2f} {:.2f}"/>'.format(*a, *b) for a, b in edges),
                     '<circle class="spot" cx="{:.2f}" cy="{:.2f}" r="10"/></g>'.format(*spot)]
     walls = [ends(r, k) for r in rings for k in range(len(r))]
@@ -326,6 +342,11 @@ def legend(page: Page, items: Sequence[Item], top: float) -> float:
     if refused & {9, 11, 12}:
         rows.append(('<path class="mark" d="M{0} {1}l40 20m-40 0l40 -20"/>',
                      "edges that cross" if not refused & {11, 12} else "edges that meet" if found else "where it fails"))
+    return meanings(page, rows, top)
+
+
+def meanings(page: Page, rows: Sequence[Tuple[str, str]], top: float) -> float:
+    """Marks with their words, in two columns; where they end."""
     step = max(36, 1.25 * page.phone)
     for k, (mark, words) in enumerate(rows):
         x, y = MARGIN + k % 2 * (page.across - 2 * MARGIN + GAP) / 2 + 4, top + k // 2 * step
@@ -352,7 +373,106 @@ def picture(items: Sequence[Item], columns: Optional[int] = None) -> str:
                     for text, style, right in line.parts:
                         page.say(kind, left + right, y, text, style)
         bottom = most + 22
-    return _whole(page, items, bottom)
+    return _whole(page, _said(items), bottom)
+
+
+# ---- two outlines, and where they come nearest
+
+TWO = """
+  .source {{ fill-opacity: 0.75; }}
+  .other {{ fill: #fbe3d2; stroke: #c2410c; }}
+  .gap {{ stroke: #111827; stroke-width: 2.2; }}
+  .end {{ fill: #111827; }}
+  .frame {{ stroke: #52606f; stroke-width: 1.4; fill: none; }}
+  @media (prefers-color-scheme: dark) {{
+    .other {{ fill: #4a2a17; stroke: #ff9d5c; }}
+    .gap {{ stroke: #ffffff; }}
+    .end {{ fill: #ffffff; }}
+    .frame {{ stroke: #a9b8c7; }}
+  }}
+"""
+KINDS = "source", "source other"
+# A gap that is drawn shorter than this has a close-up, which shows no less than this part of what the outlines span.
+SMALL, CLOSEST = 24, 1 / 4000
+# What runs out of a close-up is drawn this far: librsvg fills wrongly what runs out by 100,000.
+FAR = 5000
+
+
+def clearance_picture(first: Outline, second: Outline, names: Tuple[str, str] = ("first", "second"), up: bool = True) -> str:
+    """Two outlines with their nearest points, joined, and their clearance; where that is small, with a close-up.
+
+    Of outlines that meet two edges that do are marked, with their numbers in the outlines as they are: see :attr:`Outline.edges`.
+    """
+    rings = [_outline(first).vertices, _outline(second).vertices]
+    near, met = first.nearest_points(second), first.meeting(second)
+    layers = [(kind, outline.vertices) for outline, kind in sorted(zip((first, second), KINDS), key=lambda part: -part[0].area)]
+    page = Page(2)
+    if not near or math.dist(*map(placing(rings, 0, 0, page.cell, page.high, up), near[1:])) >= SMALL:
+        page = Page(1)
+    top = meanings(page, _meant(page, names, met is not None), MARGIN) + 8
+    boxes = [(page.left(k), top, page.left(k) + page.cell, top + page.high) for k in range(page.columns)]
+    place = placing(rings, *boxes[0][:2], page.cell, page.high, up)
+    page.shapes += _layers(layers, place)
+    if met:
+        pair = RingEdge(0, met.edge_of_first), RingEdge(1, met.edge_of_second)
+        crossing(page, rings, pair, pair_words(pair, names), place, boxes[0])
+    if near:
+        place = place if page.columns == 1 else close_up(page, layers, near[1:], place, boxes, up)
+        joined(page, rings, near[1:], short(float(f"{near.distance:.4g}")), place, boxes[-1])
+    said = f"clearance {exact(near.distance)}" if near else "clearance 0: they meet"
+    for kind, size in page.sizes():
+        page.say(kind, MARGIN, top + page.high + 6 + size, said, "name")
+    return _whole(page, f"{' and '.join(map(clean, names))}: {said}", top + page.high + 28 + 1.3 * page.phone, TWO)
+
+
+def _layers(layers: Sequence[Tuple[str, Ring]], place: Placing) -> List[str]:
+    placed = [(kind, within([place(p) for p in ring], FAR)) for kind, ring in layers]
+    return [f'<path class="{kind}" d="{path([ring], lambda p: p)}"/>' for kind, ring in placed]
+
+
+def _meant(page: Page, names: Tuple[str, str], meet: bool) -> List[Tuple[str, str]]:
+    """Marks, and what they mean."""
+    rows = [(f'<path class="{kind}" d="M{{0}} {{1}}h40v20h-40z"/>', cut(clean(name), page.phone, page.across / 2 - 80))
+            for kind, name in zip(KINDS, names)]
+    if meet:
+        return rows + [('<path class="mark" d="M{0} {1}l40 20m-40 0l40 -20"/>', "edges that meet")]
+    rows.append(('<path class="gap" d="M{0} {2}h40"/><circle class="end" cx="{0}" cy="{2}" r="4"/>'
+                 '<circle class="end" cx="{3}" cy="{2}" r="4"/>', "nearest points"))
+    return rows + [('<path class="frame" d="M{0} {1}h40v20h-40z"/>', "close-up")][:page.columns - 1]
+
+
+def close_up(page: Page, layers: Sequence[Tuple[str, Ring]], gap: Segment, place: Placing, boxes: Sequence[Box], up: bool) -> Placing:
+    """What is around a gap, framed in the first box and drawn in the second; how points are placed there."""
+    span = max(max(p[k] for _, ring in layers for p in ring) - min(p[k] for _, ring in layers for p in ring) for k in (0, 1))
+    east, north = (gap[0][0] + gap[1][0]) / 2, (gap[0][1] + gap[1][1]) / 2
+    high = max(1.5 * math.dist(*gap), CLOSEST * span)
+    wide = high * (page.cell - 2 * PAD) / (page.high - 2 * PAD)
+    near = placing([[(east - wide, north - high), (east + wide, north + high)]], *boxes[1][:2], page.cell, page.high, up)
+    (x, y), (right, _), (_, bottom) = place((east, north)), place((east + wide, north)), place((east, north + high))
+    a, b = max(right - x, 6.0), max(abs(bottom - y), 4.0)
+    x, y, right, bottom = max(x - a, boxes[0][0]), max(y - b, boxes[0][1]), min(x + a, boxes[0][2]), min(y + b, boxes[0][3])
+    page.shapes.append(f'<rect class="frame" x="{x:.2f}" y="{y:.2f}" width="{right - x:.2f}" height="{bottom - y:.2f}"/>')
+    frame = f'x="{boxes[1][0] + PAD:.2f}" y="{boxes[1][1] + PAD:.2f}" width="{page.cell - 2 * PAD}" height="{page.high - 2 * PAD}"'
+    page.shapes += [f'<clipPath id="close-up"><rect {frame}/></clipPath>', '<g clip-path="url(#close-up)">', *_layers(layers, near),
+                    "</g>", f'<rect class="frame" {frame}/>']
+    return near
+
+
+def joined(page: Page, rings: Sequence[Ring], gap: Segment, words: str, place: Placing, box: Box) -> None:
+    """Two points, the line between them, and words beside it, on the side with more room."""
+    a, b = map(place, gap)
+    page.shapes.append('<path class="gap" d="M{:.2f} {:.2f}L{:.2f} {:.2f}"/>'.format(*a, *b))
+    page.shapes += ['<circle class="end" cx="{:.2f}" cy="{:.2f}" r="4"/>'.format(*p) for p in (a, b)]
+    walls = [(place(p), place(q)) for ring in rings for p, q in zip(ring, ring[1:] + ring[:1])]
+    length = math.dist(a, b)
+    across = ((b[1] - a[1]) / length, (a[0] - b[0]) / length) if length else (0.0, 1.0)
+    for kind, size in page.sizes():
+        half = width(words, size, True) / 2
+        aside = abs(across[0]) * half + abs(across[1]) * size / 2 + 0.5 * size
+        sides = [((a[0] + b[0]) / 2 + s * across[0], (a[1] + b[1]) / 2 + s * across[1]) for s in (aside, -aside)]
+        x, y = max(sides, key=lambda p: min(away(p, *wall) for wall in walls))
+        x, y = min(max(x, box[0] + half), box[2] - half), min(max(y, box[1] + size / 2), box[3] - size / 2)
+        page.say(kind, x, y + 0.36 * size, words, "edge")
 
 
 # ---- each in its place
@@ -406,9 +526,8 @@ def _said(items: Sequence[Item]) -> str:
     return f"{len(items)} outline{'s' * (len(items) != 1)}: {len(items) - refused} with a cage, {refused} refused"
 
 
-def _whole(page: Page, items: Sequence[Item], high: float) -> str:
-    said = _said(items)
-    style = STYLE.format(most=page.across * 1.35 if page.columns > 1 else 720, wide=page.wide, phone=page.phone)
+def _whole(page: Page, said: str, high: float, more: str = "") -> str:
+    style = (STYLE + more).format(most=page.across * 1.35 if page.columns > 1 else 720, wide=page.wide, phone=page.phone)
     return "\n".join([
         f'<svg xmlns="http://www.w3.org/2000/svg" viewBox="0 0 {page.across} {high:.0f}" width="100%" role="img" '
         f"aria-label={quoteattr(said)}>",

@@ -119,6 +119,12 @@ def short(number: float) -> str:
     return f"{digits}e{int(exponent)}" if exponent else digits
 
 
+def exact(number: float) -> str:
+    """The shortest digits that read back as the same number."""
+    text = short(number)
+    return text if float(text) == number else repr(number)
+
+
 def _ring_name(ring: int, of_result: Optional[bool] = False) -> str:
     """A ring of what was given, or of the result; by its number where that is not known."""
     if of_result is None:

@@ -35,6 +35,14 @@ class Nearest(NamedTuple):
     point: Point
 
 
+class NearestPoints(NamedTuple):
+    """Where two outlines come nearest, in ``first.nearest_points(second)``: a point of each, one of them a vertex, and how far it is."""
+
+    distance: float
+    of_first: Point
+    of_second: Point
+
+
 class Meeting(NamedTuple):
     """Two edges that meet, one of each of two outlines: in ``first.meeting(second)``.
 
@@ -141,7 +149,7 @@ def _events(answer: Any) -> Events:
 
 
 def version() -> int:
-    """The version of the library: it goes up with every function that is added."""
+    """The version of the library: it goes up with every function that is added or changed."""
     return int(call("lw_version"))
 
 
@@ -311,8 +319,26 @@ class Outline:
         return float(_granted(call("lw_extent", *self._numbers)).length)
 
     def clearance(self, other: "Outline") -> float:
-        """The least distance from a vertex of the other outline to an edge of this one; 0 if an edge of one meets an edge of the other."""
+        """The least distance from a vertex of either outline to an edge of the other; 0 if an edge of one meets an edge of the other.
+
+        It is the same, bit for bit, whichever is named first. One outline inside the other is measured the same way. A distance can
+        round to 0 where they do not meet: :meth:`meeting` tells.
+        """
         return float(_granted(call("lw_clearance", *self._numbers, *_outline(other)._numbers)).length)
+
+    def nearest_points(self, other: "Outline") -> Optional[NearestPoints]:
+        """Where the outlines come nearest; the distance is their :meth:`clearance`. None where they meet: :meth:`meeting` has the edges.
+
+        Each vertex of this outline is asked for the nearest point of the other, from vertex 0 on, then each of the other for that of
+        this one. Of several as near the first counts.
+        """
+        if self.meeting(other):
+            return None
+        asked = [(vertex, other.nearest(vertex)) for vertex in self.vertices]
+        asked_back = [(vertex, self.nearest(vertex)) for vertex in other.vertices]
+        found = [NearestPoints(near.distance, vertex, near.point) for vertex, near in asked]
+        found += [NearestPoints(near.distance, near.point, vertex) for vertex, near in asked_back]
+        return min(found, key=lambda pair: pair.distance)
 
     def meeting(self, other: "Outline") -> Optional[Meeting]:
         """Two edges, one of this outline and one of the other, that share a point, which is told exactly; see :class:`Meeting`.

@@ -1,5 +1,5 @@
-"""Doubles as whole numbers, and turns, meetings and folds of points and the pair of edges of two rings in them: what R-9 and R-3
-say, worked out in another way than the library's.
+"""Doubles as whole numbers, and turns, meetings and folds of points, the pair of edges of two rings and their clearance in them:
+what R-9, R-3 and R-1 say, worked out in another way than the library's.
 
 A finite double is a whole number of units of the smallest one, 2^-1074, and so each answer here is exact, but for what is
 said to be in doubles or rounded.
@@ -161,6 +161,11 @@ def rings_share(ring, other):
     return walk(ring, other) is not None
 
 
+def gaps(ring, other):
+    """Of each vertex of a ring the least gap to the edges of another."""
+    return [min(gap(vertex, *edge) for edge in edges(other)) for vertex in ring]
+
+
 def clearance(first, second):
-    """Of a second ring from a first: 0 where they have a point in common, else the least gap of its vertices."""
-    return 0.0 if rings_share(first, second) else min(gap(point, *edge) for point in second for edge in edges(first))
+    """0 where two rings have a point in common, else the least gap of the vertices of each to the edges of the other."""
+    return 0.0 if rings_share(first, second) else min(gaps(first, second) + gaps(second, first))

@@ -13,6 +13,9 @@ SQUARE = [(0.0, 0.0), (4.0, 0.0), (4.0, 4.0), (0.0, 4.0)]
 BOW = [(0, 0), (4, 4), (4, 0), (0, 2)]
 # Its edge 0 meets the square's edge 3 alone; the square's edge 1, its lowest, meets the edges 2 and 3 of this.
 HOOK = [(2, 1), (-2, 1), (-2, 3), (6, 3)]
+# The sleeve has a spike that comes within 0.2 of the collar; the collar's own vertices are 2.99 from the sleeve.
+COLLAR = [(-3, 0), (3, 0), (3, -2), (-3, -2)]
+SLEEVE = [(-5, 10), (-1, 6), (0, 0.2), (1, 6), (5, 10)]
 PANE = [[(0, 0), (10, 0), (10, 10), (0, 10)], [(4, 4), (6, 4), (6, 6), (4, 6)]]
 
 JOB = ("inset,3ff0000000000000,1,4,0000000000000000,0000000000000000,4010000000000000,0000000000000000,"

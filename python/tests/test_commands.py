@@ -14,7 +14,7 @@ from unittest import mock
 
 from lizardwire import Job, __version__, progress, version
 from lizardwire.__main__ import Watch, size_of
-from tests.support import ANSWER, JOB, PYTHON, TOP, Folder, run
+from tests.support import ANSWER, COLLAR, JOB, PYTHON, SLEEVE, TOP, Folder, run
 
 DRAWING = """<svg xmlns="http://www.w3.org/2000/svg">
 <polygon id="tail" points="0,0 9,0 9,9 0,9"/><circle id="eye" r="3"/><path id="bow" d="M0 0L4 4L4 0L0 2z"/></svg>"""
@@ -290,6 +290,34 @@ class Progress(Folder):
         self.assertEqual(self.counted(False), "")
 
 
+class Clearance(Folder):
+    def test_told(self):
+        rings = ("collar", COLLAR), ("sleeve", SLEEVE)
+        collar, sleeve = (name + "=" + " ".join(f"{x},{y}" for x, y in ring) for name, ring in rings)
+        self.assertEqual(run("clearance", collar, sleeve), (0, b"0.2 0,0 0,0.2\n", ""))
+        self.assertEqual(run("clearance", sleeve, collar.partition("=")[2]), (0, b"0.2 0,0.2 0,0\n", ""))
+        out = os.path.join(self.folder, "out.svg")
+        self.assertEqual(run("clearance", collar, sleeve, "-o", out), (0, b"0.2 0,0 0,0.2\n", ""))
+        with open(os.path.join(TOP, "docs", "clearance.svg"), encoding="utf-8") as stream:
+            self.assertEqual(self.get("out.svg"), stream.read())
+        self.assertEqual(run("clearance", collar, sleeve, "-o", "-"), (0, self.get("out.svg").encode(), ""))
+
+    def test_they_meet(self):
+        self.assertEqual(run("clearance", "0,0 4,0 4,4", "1,-1 2,-1 2,9"), (0, b"0\n", ""))
+        status, out, said = run("clearance", "0,0 4,0 4,4", "1,-1 2,-1 2,9", "-o", "-")
+        self.assertEqual((status, said, b"clearance 0: they meet" in out), (0, "", True))
+
+    def test_refused(self):
+        good, bad, words = "0,0 4,0 4,4", "0,0 4,4 4,0 0,2", "no, 9: edge 0 crosses edge 2\n"
+        for pair, name in (((good, "a=" + bad), "a"), ((good, bad), "second"), ((bad, "a=" + good), "first"), (("b=" + bad, bad), "b")):
+            self.assertEqual(run("clearance", *pair), (1, b"", f"lizardwire: {name}: {words}"))
+        self.assertEqual(run("clearance", "a=b", "0,0 4,0 4,4"),
+                         (2, b"", 'lizardwire: a ring is written "0,0 4,0 4,4 0,4", and not \'b\'\n'))
+        path = self.put("before", "kept")
+        self.assertEqual(run("clearance", "0,0 4,0 4,4", "0,0 1,1", "-o", path)[0], 1)
+        self.assertEqual((self.get("before"), run("clearance", "0,0 4,0 4,4", "9,0 9,1 8,1", "-o", "/no/such/folder/out")[0]), ("kept", 2))
+
+
 class Offsets(unittest.TestCase):
     def test_inset_and_outset(self):
         self.assertEqual(run("inset", "1", "0,0 4,0 4,4 0,4"), (0, b"1,1 3,1 3,3 1,3\n", ""))
@@ -303,7 +331,7 @@ class Offsets(unittest.TestCase):
             self.assertEqual(run("inset", "1", ring), (2, b"", f'lizardwire: a ring is written "0,0 4,0 4,4 0,4", and not {ring!r}\n'))
 
     def test_help(self):
-        for words in ([], ["draw"], ["jobs"], ["inset"], ["outset"]):
+        for words in ([], ["draw"], ["jobs"], ["inset"], ["outset"], ["clearance"]):
             status, out, said = run(*words, "--help")
             self.assertEqual((status, said), (0, ""))
             self.assertIn(b"usage: python -m lizardwire", out)
@@ -316,7 +344,7 @@ class Offsets(unittest.TestCase):
         """One line and a status; nothing where there is no standard error."""
         for words in ([], ["none"], ["draw"], ["draw", "F", "--none"], ["draw", "F", "--inset", "x"], ["draw", "F", "--inset"],
                       ["draw", "F", "--inset", "1", "--outset", "1"], ["jobs", "-x"], ["jobs", "-o"], ["inset"], ["inset", "1"],
-                      ["inset", "x", "0,0"], ["outset", "1", "0,0 4,0 4,4", "1,1"]):
+                      ["inset", "x", "0,0"], ["outset", "1", "0,0 4,0 4,4", "1,1"], ["clearance", "0,0 4,0 4,4"]):
             status, out, said = run(*words)
             self.assertEqual((status, out), (2, b""), words)
             self.assertRegex(said, r"^lizardwire: .*\(python -m lizardwire.* --help says more\)\n$")

@@ -5,9 +5,9 @@ import re
 import unittest
 import xml.etree.ElementTree as ElementTree
 
-from lizardwire import Answer, Job, Refused, svg
-from lizardwire.draw import Item, Page, away, cut, in_place, meeting, picture, width, wrap
-from tests.support import BOW, HOOK, PANE, SQUARE
+from lizardwire import Answer, Job, Outline, Refused, svg
+from lizardwire.draw import FAR, Item, Page, away, clearance_picture, cut, in_place, meeting, picture, width, within, wrap
+from tests.support import BOW, COLLAR, HOOK, PANE, SLEEVE, SQUARE
 
 SPACE = "{http://www.w3.org/2000/svg}"
 
@@ -209,6 +209,94 @@ class InPlace(unittest.TestCase):
         self.assertTrue(in_place([told(2, {"index": 0}, [])]).startswith("<svg"))
 
 
+def odd(point, ring):
+    """Whether a ray to the east crosses the ring an odd number of times."""
+    x, y = point
+    return sum((a[1] > y) != (b[1] > y) and x < a[0] + (y - a[1]) * (b[0] - a[0]) / (b[1] - a[1])
+               for a, b in zip(ring, ring[1:] + ring[:1])) % 2
+
+
+class Clearances(unittest.TestCase):
+    def drawn(self, first, second, *more):
+        """The picture; its words; where the two nearest points are in it."""
+        root = ElementTree.fromstring(clearance_picture(Outline(first), Outline(second), ("one", "two"), *more))
+        ends = [(float(end.get("cx")), float(end.get("cy"))) for end in classes(root, "end")[2:]]
+        return root, [t.text for t in texts(root, "wide")], ends
+
+    def test_from_close_by(self):
+        root, said, (collar, tip) = self.drawn(COLLAR, SLEEVE)
+        self.assertEqual(said, ["one", "two", "nearest points", "close-up", "0.2", "clearance 0.2"])
+        self.assertEqual(root.find(SPACE + "title").text, "one and two: clearance 0.2")
+        # The spike's tip, and below it, in the middle, the collar's upper edge.
+        sleeve, below = (points(shape) for shape in classes(root, "source")[4:])
+        self.assertIn(tip, sleeve)
+        self.assertEqual((collar[0], collar[1]), (tip[0], min(y for _, y in below)))
+        self.assertGreater(collar[1] - tip[1], 48)
+        self.assertEqual(points(classes(root, "gap")[1]), [collar, tip])
+        # The frame in the drawing is around the tip there.
+        whole, frame = points(classes(root, "source")[2]), classes(root, "frame")[1]
+        x, y, wide, high = (float(frame.get(key)) for key in ("x", "y", "width", "height"))
+        self.assertEqual([x < p[0] < x + wide and y < p[1] < y + high for p in whole], [p == whole[2] for p in whole])
+
+    def test_far_apart_and_inside(self):
+        root, said, (first, second) = self.drawn(SQUARE, [(7, 8), (9, 8), (9, 9)])
+        self.assertEqual((said, classes(root, "frame")), (["one", "two", "nearest points", "5", "clearance 5"], []))
+        square, other = (points(shape) for shape in classes(root, "source")[2:])
+        self.assertEqual((first, second), (square[2], other[0]))
+        self.assertLess(second[1], first[1])
+        _, _, (first, second) = self.drawn(SQUARE, [(7, 8), (9, 8), (9, 9)], False)
+        self.assertGreater(second[1], first[1])
+        # The larger one is drawn below, whichever is named first.
+        for rings in (PANE, PANE[::-1]):
+            root, said, _ = self.drawn(*rings)
+            kinds = [shape.get("class") for shape in classes(root, "source")[2:]]
+            self.assertEqual((kinds, said[-1]), (["source", "source other"][::1 if rings is PANE else -1], "clearance 4"))
+
+    def test_they_meet(self):
+        root, said, ends = self.drawn(SQUARE, HOOK)
+        self.assertEqual((said, ends), (["one", "two", "edges that meet", "1", "0", "clearance 0: they meet"], []))
+        self.assertEqual([len(points(mark)) for mark in classes(root, "mark")[1:]], [2, 2])
+        self.assertIn("edge 1 of one meets edge 0 of two", [title.text for title in root.iter(SPACE + "title")])
+        self.assertIn("<title>edge 1 of a &lt; meets edge 0 of &amp; </title>",
+                      clearance_picture(Outline(SQUARE), Outline(HOOK), ("a <", "&\n")))
+
+    def test_every_digit(self):
+        root, said, _ = self.drawn(SQUARE, [(4.5, 4.5), (6, 5), (5, 6)])
+        self.assertEqual(said[-2:], ["0.7071", "clearance 0.7071067811865476"])
+        self.assertEqual([root.find(SPACE + "title").text, root.get("aria-label")], ["one and two: " + said[-1]] * 2)
+
+    def test_outlines_are_wanted(self):
+        for pair in ((Outline(SQUARE), HOOK), (HOOK, Outline(SQUARE))):
+            with self.assertRaisesRegex(TypeError, "an Outline is wanted, and not list"):
+                clearance_picture(*pair)
+
+    def test_nothing_is_far_out(self):
+        """A close-up is cut off before it is clipped; its points are there all the same."""
+        large = [(-1e9, -1), (1e9, -1), (1e9, -1e9), (-1e9, -1e9)]
+        for first, second in (([(0.2, 0.2), (0.2, 0.3), (0, 0.2)], [(0.3, 0.4), (0.1, 0.4), (0.3, 0.2)]),
+                              (large, [(0, -0.999), (1e9, 1e9), (-1e9, 1e9)]), (large, [(x, -y - 1.999) for x, y in large])):
+            root, said, _ = self.drawn(first, second)
+            self.assertIn("close-up", said)
+            shapes = [points(shape) for shape in classes(root, "source")[2:]]
+            self.assertEqual([len(shapes), max(abs(c) for shape in shapes for p in shape for c in p)], [4, FAR])
+            self.assertTrue(all(any(abs(c) == FAR for p in shape for c in p) for shape in shapes[2:]))
+
+    def test_cut_off(self):
+        """What is in the square is in the part, and nothing else of the square is."""
+        self.assertEqual(within(SQUARE, 4), SQUARE)
+        self.assertEqual(within([(0, 0), (8, 0), (0, 4)], 4), [(0, 0), (4, 0), (4, 2), (0, 4)])
+        draw, tally = random.Random(8), [0, 0]
+        for _ in range(200):
+            ring = [(draw.uniform(-30, 30), draw.uniform(-30, 30)) for _ in range(draw.randint(3, 9))]
+            part = within(ring, 10)
+            self.assertTrue(all(abs(c) <= 10 + 1e-9 for p in part for c in p))
+            for _ in range(20):
+                point = draw.uniform(-10, 10), draw.uniform(-10, 10)
+                self.assertEqual(odd(point, part), odd(point, ring))
+                tally[odd(point, ring)] += 1
+        self.assertGreater(min(tally), 1000)
+
+
 class Room(unittest.TestCase):
     """No words overlap, and nothing sticks out, whatever the names and answers are."""
 
@@ -224,8 +312,9 @@ class Room(unittest.TestCase):
             yield item(ring, draw.choice((0, 0.5, 3, 1e-7, 123456.789, -2)), name, draw.choice(("inset", "outset")))
 
     def check(self, items, columns):
-        root = parse(items, columns)
-        page = Page(columns)
+        self.check_root(parse(items, columns), Page(columns))
+
+    def check_root(self, root, page):
         across, high = map(float, root.get("viewBox").split()[2:])
         for kind, size in page.sizes():
             boxes = []
@@ -238,10 +327,29 @@ class Room(unittest.TestCase):
                 self.assertTrue(a[0] >= 0 and a[1] >= 0 and a[2] <= across + 1 and a[3] <= high, a)
                 for b in boxes[:k]:
                     self.assertTrue(a[2] <= b[0] + 0.5 or b[2] <= a[0] + 0.5 or a[3] <= b[1] + 0.5 or b[3] <= a[1] + 0.5, (a, b))
+        cut_off = [shape for group in root.iter(SPACE + "g") if group.get("clip-path") for shape in group]
         for shape in root.iter(SPACE + "path"):
-            if "h40" not in shape.get("d") and "l40" not in shape.get("d"):
+            if "h40" not in shape.get("d") and "l40" not in shape.get("d") and shape not in cut_off:
                 for x, y in points(shape):
                     self.assertTrue(0 <= x <= across and 0 <= y <= high, shape.get("d"))
+
+    def test_two_outlines(self):
+        """Far apart and near, one inside the other, meeting: in a close-up and without."""
+        draw, columns = random.Random(7), []
+        for k in range(90):
+            count, size = draw.randint(3, 12), 3 * draw.random()
+            gap = draw.choice((-1, 0, 1e-9, 0.00123456789, 0.1, 2, 40))
+            middle = (size + 10 + gap, draw.uniform(-2, 12)) if k % 3 else (10 - gap - size, 5)
+            ring = [(middle[0] - size * math.cos(2 * math.pi * j / count), middle[1] - size * math.sin(2 * math.pi * j / count))
+                    for j in range(count)]
+            names = tuple("".join(draw.choice("abc dmMW & 漢字é") for _ in range(draw.randint(0, 60))) for _ in range(2))
+            outlines = [Outline(PANE[0]), Outline(ring)][::draw.choice((1, -1))]
+            root = ElementTree.fromstring(clearance_picture(*outlines, names, draw.choice((True, False))))
+            columns.append(2 if classes(root, "frame") else 1)
+            self.check_root(root, Page(columns[-1]))
+            marked = (0, 3) if outlines[0].meeting(outlines[1]) else (4, 0)
+            self.assertEqual((len(classes(root, "end")), len(classes(root, "mark"))), marked)
+        self.assertTrue(20 < columns.count(2) < 70)
 
     def test_it(self):
         items = list(self.items())

@@ -442,7 +442,7 @@ class Seen(Shell):
 
     LINES = ("lizardwire jobs F", "lizardwire jobs < F", "lizardwire draw F", "lizardwire draw F --words", "lizardwire draw F --in-place",
              "lizardwire draw F.svg --inset 1", 'lizardwire inset 1 "0,0 4,0 4,4 0,4"', 'lizardwire outset 1 "0,0 4,0 4,4 0,4"',
-             "lizardwire --version")
+             'lizardwire clearance "0,0 4,0 4,4" "9,0 9,1 8,1"', "lizardwire --version")
 
     def test_a_full_device(self):
         for line in self.LINES + ("lizardwire --help", "lizardwire jobs --help"):

@@ -7,7 +7,7 @@ import re
 import unittest
 
 from lizardwire import Place, _library
-from tests.support import BOW, PANE, SQUARE, TOP
+from tests.support import BOW, PANE, SQUARE, TOP, comb
 
 WORDS = {"usize": "size_t", "f64": "double", "[usize; 9]": "size_t[9]"}
 SLICES = {"&[f64]": "double*", "&mut [f64]": "double*", "&[usize]": "size_t*", "&[u8]": "uint8_t*", "&mut [u8]": "uint8_t*"}
@@ -122,7 +122,7 @@ def told(answer):
 
 
 class Called(unittest.TestCase):
-    """The functions that the package declares and does not call itself."""
+    """What the package declares and does not call itself, or never so."""
 
     def test_check(self):
         square = flat(SQUARE)
@@ -130,6 +130,14 @@ class Called(unittest.TestCase):
                               (square[:7], {"refusal": 1}), (square[:7] + [math.nan], {"refusal": 2, "first": 7}), ([], {"refusal": 4}),
                               (square[:7] + [2e9], {"refusal": 5, "value": 2e9}), (flat(BOW), {"refusal": 9, "second": 2})):
             self.assertEqual(told(_library.call("lw_check", *_library.numbers_in(numbers))), said, numbers)
+
+    def test_clearance(self):
+        """What 21 refuses, of the first, of the second and of both; the package has asked it before."""
+        square = flat(SQUARE)
+        for bad in ([], square[:4], square[:7], flat(comb(129)), square[:7] + [math.nan], square[:7] + [-2e9]):
+            for first, second in ((bad, square), (square, bad), (bad, bad)):
+                answer = _library.call("lw_clearance", *_library.numbers_in(first), *_library.numbers_in(second))
+                self.assertEqual(told(answer), {"refusal": 21})
 
     def inset(self, rings, distance, room=16, lengths=(4, 4)):
         """What lw_region_inset tells, and its output, which was all 7."""

@@ -8,9 +8,9 @@ import sys
 import unittest
 
 import lizardwire
-from lizardwire import Cage, Events, Job, Meeting, Nearest, Outline, Place, Refused, Region, inset, outset
+from lizardwire import Cage, Events, Job, Meeting, Nearest, NearestPoints, Outline, Place, Refused, Region, hypot, inset, outset
 from tests import exact, typed
-from tests.support import BOW, HOOK, JOB, PANE, SQUARE, TOP, Folder, comb
+from tests.support import BOW, COLLAR, HOOK, JOB, PANE, SLEEVE, SQUARE, TOP, Folder, comb
 
 INNER = [(1.0, 1.0), (3.0, 1.0), (3.0, 3.0), (1.0, 3.0)]
 # Its inset by 1.7071065 has five vertices, two of them closer together than a drawing may have them.
@@ -21,6 +21,11 @@ BAD_COUNTS = ((-1, ValueError), (2 ** 64, ValueError), (-2 ** 64, ValueError), (
 
 def flat(*rings):
     return [number for ring in rings for point in ring for number in point]
+
+
+def one_side(first, second):
+    """The least distance from a vertex of the second to an edge of the first."""
+    return min(first.nearest(vertex).distance for vertex in second.vertices)
 
 
 class Asked(unittest.TestCase):
@@ -40,13 +45,73 @@ class OfOutlines(Asked):
         moved = Outline([(x - 7, y) for x, y in SQUARE])
         self.assertEqual((moved.area, moved.perimeter, moved.extent), (16, 16, 7))
 
+    def clear(self, first, second, due):
+        """The clearance is that number, bit for bit, whichever is named first, and how far the nearest points are apart."""
+        self.assertEqual([first.clearance(second).hex(), second.clearance(first).hex()], [float(due).hex()] * 2)
+        met = first.meeting(second) is not None
+        for one, two in ((first, second), (second, first)):
+            near = one.nearest_points(two)
+            self.assertEqual(near is None, met)
+            if near:
+                self.assertEqual([near.distance.hex(), hypot(*(a - b for a, b in zip(*near[1:]))).hex()], [float(due).hex()] * 2)
+                self.assertTrue(near.of_first in one.vertices or near.of_second in two.vertices)
+                self.assertLess(max(one.nearest(near.of_first).distance, two.nearest(near.of_second).distance), 1e-12)
+        return met
+
     def test_clearance(self):
-        self.assertEqual(self.square.clearance(Outline(INNER)), 1)
-        self.assertEqual(self.square.clearance(self.square), 0)
-        self.assertEqual(self.square.clearance(Outline([(x + 2, y) for x, y in SQUARE])), 0)
-        self.assertEqual(self.square.clearance(Outline([(x + 9, y) for x, y in SQUARE])), 5)
-        with self.assertRaises(TypeError):
-            self.square.clearance(SQUARE)
+        self.clear(Outline(COLLAR), Outline(SLEEVE), 0.2)
+        self.assertGreater(one_side(Outline(SLEEVE), Outline(COLLAR)), 2.9)
+        # Nearest to the square: an edge, a vertex alone, a closing edge alone; inside, a vertex of the inner one; of the outer one.
+        for ring, due in (([(x + 9, y) for x, y in SQUARE], 5), ([(5, 2), (9, 0), (9, 4)], 1), ([(10, 2), (12, 12), (2, 10)], hypot(2, 2)),
+                          (INNER, 1)):
+            self.assertFalse(self.clear(self.square, Outline.stored(flat(ring)), due))
+        self.assertFalse(self.clear(Outline([(0, 0), (4, 0), (4, 4), (2, 3.25), (0, 4)]), Outline(INNER), 0.25))
+        # They meet, where no vertex of either is near the other, too.
+        for ring in (SQUARE, [(x + 2, y) for x, y in SQUARE], [(4, 2), (9, 0), (9, 4)], [(-3, 1), (7, 1), (7, 3), (-3, 3)]):
+            self.assertTrue(self.clear(self.square, Outline(ring), 0))
+        # So near that the gap is worked out as 0, and no meeting: points there are.
+        sloping, tip = Outline([(5e-324, 0), (1, 0), (1, 1)]), Outline([(0, 0), (-1, 1), (-1, -1)])
+        self.assertFalse(self.clear(sloping, tip, 0))
+        for ask in (self.square.clearance, self.square.nearest_points):
+            with self.assertRaises(TypeError):
+                ask(SQUARE)
+
+    def test_clearance_of_any(self):
+        """Of drawn outlines, and of 128 vertices and 128; in many one side alone would not do."""
+        draw, tally = random.Random(1), [0, 0, 0]
+        pairs = [[Outline.stored([draw.randrange(12) + moved for _ in range(2 * draw.randint(3, 8))]) for moved in (0, moved)]
+                 for moved in range(20) for _ in range(20)]
+        for tooth in (0, 1, 62, 125):
+            for side, north in enumerate((-1.8, 1.3)):
+                rings = [comb(128), [(x + 0.5, -y - 0.5) for x, y in comb(128)]]
+                rings[side][tooth] = rings[side][tooth][0], north
+                pairs.append([Outline.stored(flat(ring)) for ring in rings])
+        for first, second in pairs:
+            sides = one_side(first, second), one_side(second, first)
+            if self.clear(first, second, 0 if first.meeting(second) else min(sides)):
+                tally[0] += 1
+            else:
+                tally[1] += sides[0] < sides[1]
+                tally[2] += sides[1] < sides[0]
+        self.assertGreater(min(tally), 30)
+
+    def test_nearest_points(self):
+        collar, sleeve = Outline(COLLAR), Outline(SLEEVE)
+        near = collar.nearest_points(sleeve)
+        self.assertIsInstance(near, NearestPoints)
+        self.assertEqual((near.distance, near.of_first, near.of_second), (0.2, (0, 0), (0, 0.2)))
+        self.assertEqual(sleeve.nearest_points(collar), (0.2, (0, 0.2), (0, 0)))
+        # Of several as near: the lowest vertex of the first, then the lowest of the second.
+        beyond = Outline([(x + 6, y) for x, y in SQUARE])
+        self.assertEqual(self.square.nearest_points(beyond), (2, (4, 0), (6, 0)))
+        self.assertEqual(beyond.nearest_points(self.square), (2, (6, 0), (4, 0)))
+        inner = Outline(INNER[2:] + INNER[:2])
+        self.assertEqual(self.square.nearest_points(inner), (1, (4, 3), (3, 3)))
+        self.assertEqual(inner.nearest_points(self.square), (1, (3, 3), (4, 3)))
+        # Vertex 0 of this one is as near as vertex 2 of the square.
+        around = Outline([(5, 2), (14, 2), (14, 9), (-4, 9), (-4, 5), (12, 5)])
+        self.assertEqual(self.square.nearest_points(around), (1, (4, 4), (4, 5)))
+        self.assertEqual(around.nearest_points(self.square), (1, (5, 2), (4, 2)))
 
     def test_meeting(self):
         """The outline of fewer vertices is in the outer walk, of two with as many the first: the pair is not in the named order."""

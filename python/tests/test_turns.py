@@ -291,6 +291,19 @@ class Examples(Case):
         self.assertEqual((rounded(a, b, c), exact.turn(a, b, c), exact.turn(b, a, c)), (0.0, exact.LEFT, exact.RIGHT))
         self.assertEqual(exact.turn((0.0, math.nan), b, c), exact.UNKNOWN)
 
+    def test_the_judge_of_clearances(self):
+        """It tells R-1's spike from either side, 0 of bars that cross, and a gap of 0 of rings that are apart."""
+        collar = [(-3.0, 0.0), (3.0, 0.0), (3.0, -2.0), (-3.0, -2.0)]
+        sleeve = [(-5.0, 10.0), (-1.0, 6.0), (0.0, 0.2), (1.0, 6.0), (5.0, 10.0)]
+        level, upright = ([(-e, -n), (e, -n), (e, n), (-e, n)] for e, n in ((3.0, 1.0), (1.0, 3.0)))
+        apart = [(0.2, 0.2), (0.2, 0.3), (0.0, 0.2)], [(0.3, 0.4), (0.1, 0.4), (0.3, 0.2)]
+        for first, second, met, sides, told in ((collar, sleeve, False, (2.9903617305345733, 0.2), 0.2),
+                                                (level, upright, True, (2.0, 2.0), 0.0),
+                                                (*apart, False, (0.0, 0.09999999999999998), 0.0)):
+            self.assertEqual((min(exact.gaps(first, second)), min(exact.gaps(second, first))), sides)
+            self.assertEqual([rings_share(first, second), rings_share(second, first)], [met, met])
+            self.assertEqual([exact.clearance(first, second), exact.clearance(second, first)], [told, told])
+
     def test_beside_an_edge(self):
         """An edge along (1, 1): what is one step off it is not on the boundary."""
         shape = Outline([(0.5, 0.5), (24, 24), (0, 24)])

@@ -3,8 +3,8 @@ from pathlib import Path
 from typing import List, Optional, Tuple
 
 from lizardwire import (
-    Answer, Cage, Events, Job, Meeting, Nearest, Outline, Place, Refused, Region, Stream, answer_line, hypot, inset, outset, read_jobs,
-    version, write_jobs,
+    Answer, Cage, Events, Job, Meeting, Nearest, NearestPoints, Outline, Place, Refused, Region, Stream, answer_line, hypot, inset, outset,
+    read_jobs, version, write_jobs,
 )
 
 SQUARE = [(0, 0), (4, 0), (4, 4), (0, 4)]
@@ -17,6 +17,8 @@ def outlines(outline: Outline) -> Tuple[float, float, float, float]:
     east, north = outline.vertex(-1)
     assert place is Place.INSIDE and start != end
     clear: float = outline.clearance(Outline.stored(outline.numbers))
+    near: Optional[NearestPoints] = outline.nearest_points(Outline(SQUARE))
+    assert near is None or near.distance >= 0 and near.of_first != near.of_second
     met: Optional[Meeting] = outline.meeting(Outline.stored(outline.numbers))
     assert met is not None and not met.swapped and met.outer + met.inner == met.edge_of_first + met.edge_of_second
     return outline.area + outline.perimeter, outline.extent + nearest.distance, clear, east + north

@@ -51,11 +51,11 @@ mod words;
 pub use jobs::{answer_jobs, answer_line};
 pub use refusal::Refusal;
 pub use shapes::{Outline, Region};
-pub use slices::{hypot, version, Events, Meeting, Nearest, Place, Point};
+pub use slices::{hypot, version, Events, Meeting, Nearest, NearestPoints, Place, Point};
 pub use words::words;
 
 /// The version of the library's header that this crate is written for; [`version`] says that of the library.
-pub const VERSION: usize = 2;
+pub const VERSION: usize = 3;
 /// The most vertices of an outline, and of the front of an offset.
 pub const VERTICES: usize = 128;
 /// The most holes of a region.

@@ -28,7 +28,7 @@ mod lines;
 mod outlines;
 mod regions;
 
-pub use answers::{Events, Meeting, Nearest, Place, Point, Rings};
+pub use answers::{Events, Meeting, Nearest, NearestPoints, Place, Point, Rings};
 pub use lines::{job_line, Fed, NotFed, Stream};
 pub use outlines::*;
 pub use regions::*;

@@ -1,6 +1,8 @@
 //! Bad input and short output, and what the crate adds to the library.
 
-use lizardwire::{hypot, slices, Events, Meeting, Nearest, Outline, Place, Point, Refusal, Region};
+use lizardwire::{
+    hypot, slices, Events, Meeting, Nearest, NearestPoints, Outline, Place, Point, Refusal, Region,
+};
 
 const S: [f64; 8] = [0.0, 0.0, 4.0, 0.0, 4.0, 4.0, 0.0, 4.0];
 
@@ -53,6 +55,9 @@ fn a_shape_handed_in_that_is_none() {
         assert_eq!(slices::extent(shape), Err(refused));
         assert_eq!(slices::clearance(shape, &S), Err(refused));
         assert_eq!(slices::clearance(&S, shape), Err(refused));
+        assert_eq!(slices::clearance(shape, shape), Err(refused));
+        assert_eq!(slices::nearest_points(shape, &S), Err(refused));
+        assert_eq!(slices::nearest_points(&S, shape), Err(refused));
         assert_eq!(slices::meeting(shape, &S), Err(refused));
         assert_eq!(slices::meeting(&S, shape), Err(refused));
         assert_eq!(slices::meeting(shape, shape), Err(refused));
@@ -137,17 +142,147 @@ fn vertices_and_edges() {
     assert_eq!(Outline::new(&comb(128)).unwrap().edges().len(), 128);
 }
 
+/// The clearance of two outlines, whichever is named first, by its bits.
+fn clear(first: &[f64], second: &[f64]) -> f64 {
+    let told = slices::clearance(first, second).unwrap();
+    let back = slices::clearance(second, first).unwrap();
+    assert_eq!(told.to_bits(), back.to_bits());
+    told
+}
+
+/// The distance of the vertex of the second outline that is nearest to the first.
+fn vertex_by_vertex(first: &[f64], second: &[f64]) -> f64 {
+    let gap = |v: &[f64]| slices::nearest(first, (v[0], v[1])).unwrap().distance;
+    second
+        .chunks_exact(2)
+        .map(gap)
+        .fold(f64::INFINITY, f64::min)
+}
+
 #[test]
-fn clearance_of_one_outline_from_another() {
-    let square = Outline::from_numbers(&S).unwrap();
-    let inner = square.inset(1.0).unwrap();
-    assert_eq!(square.clearance(&inner), 1.0);
-    assert_eq!(inner.clearance(&square), hypot(1.0, 1.0));
-    assert_eq!(square.clearance(&square), 0.0);
-    let across = Outline::new(&[(2.0, 2.0), (9.0, 2.0), (9.0, 3.0)]).unwrap();
-    assert_eq!(square.clearance(&across), 0.0);
-    let apart = Outline::new(&[(7.0, 8.0), (9.0, 8.0), (9.0, 9.0)]).unwrap();
-    assert_eq!(square.clearance(&apart), 5.0);
+fn clearance_from_both_sides() {
+    // The collar is 0.2 from the sleeve's spike; its own vertices are farther from the sleeve.
+    let collar = [-3.0, 0.0, 3.0, 0.0, 3.0, -2.0, -3.0, -2.0];
+    let sleeve = [-5.0, 10.0, -1.0, 6.0, 0.0, 0.2, 1.0, 6.0, 5.0, 10.0];
+    assert_eq!(clear(&collar, &sleeve), 0.2);
+    assert!(vertex_by_vertex(&sleeve, &collar) > 2.9);
+    // Nearest to the square: a vertex alone, a closing edge alone, a corner.
+    assert_eq!(clear(&S, &[5.0, 2.0, 9.0, 0.0, 9.0, 4.0]), 1.0);
+    assert_eq!(
+        clear(&S, &[10.0, 2.0, 12.0, 12.0, 2.0, 10.0]),
+        hypot(2.0, 2.0)
+    );
+    assert_eq!(clear(&S, &[7.0, 8.0, 9.0, 8.0, 9.0, 9.0]), 5.0);
+    // One inside the other, by a vertex of the inner one, and of the outer one.
+    let inner = [1.0, 1.0, 3.0, 1.0, 3.0, 3.0, 1.0, 3.0];
+    let notched = [0.0, 0.0, 4.0, 0.0, 4.0, 4.0, 2.0, 3.25, 0.0, 4.0];
+    assert_eq!(clear(&S, &inner), 1.0);
+    assert_eq!(clear(&notched, &inner), 0.25);
+    // They meet, and no vertex of either need be near the other.
+    assert_eq!(clear(&S, &S), 0.0);
+    assert_eq!(clear(&S, &[4.0, 2.0, 9.0, 0.0, 9.0, 4.0]), 0.0);
+    assert_eq!(clear(&S, &[-3.0, 1.0, 7.0, 1.0, 7.0, 3.0, -3.0, 3.0]), 0.0);
+    // So near that the gap is worked out as 0, and no meeting.
+    let (sloping, tip) = (
+        [5e-324, 0.0, 1.0, 0.0, 1.0, 1.0],
+        [0.0, 0.0, -1.0, 1.0, -1.0, -1.0],
+    );
+    assert_eq!(slices::meeting(&sloping, &tip), Ok(None));
+    assert_eq!(clear(&sloping, &tip), 0.0);
+}
+
+/// Vertices of whole numbers below 10, moved.
+fn drawn(state: &mut u32, vertices: usize, moved: f64) -> Vec<f64> {
+    let mut next = || {
+        *state = state.wrapping_mul(1_103_515_245).wrapping_add(12_345);
+        f64::from((*state >> 16) % 10) + moved
+    };
+    (0..2 * vertices).map(|_| next()).collect()
+}
+
+/// Of drawn outlines the clearance is the one from both sides, and the distance of the nearest points, which are where they should be.
+#[test]
+fn drawn_clearances() {
+    let (mut state, mut meet, mut of_first, mut of_second) = (5, 0, 0, 0);
+    for round in 0..4000 {
+        let first = drawn(&mut state, 3 + round % 6, 0.0);
+        let second = drawn(&mut state, 3 + round / 6 % 6, (round % 23) as f64);
+        let told = clear(&first, &second);
+        let Some(near) = slices::nearest_points(&first, &second).unwrap() else {
+            assert!(slices::meeting(&first, &second).unwrap().is_some());
+            assert_eq!(told.to_bits(), 0);
+            meet += 1;
+            continue;
+        };
+        let sides = [
+            vertex_by_vertex(&first, &second),
+            vertex_by_vertex(&second, &first),
+        ];
+        assert_eq!(told.to_bits(), sides[0].min(sides[1]).to_bits());
+        assert_eq!(told.to_bits(), near.distance.to_bits());
+        let apart = (
+            near.of_first.0 - near.of_second.0,
+            near.of_first.1 - near.of_second.1,
+        );
+        assert_eq!(hypot(apart.0, apart.1).to_bits(), told.to_bits());
+        for (outline, point) in [(&first, near.of_first), (&second, near.of_second)] {
+            assert!(slices::nearest(outline, point).unwrap().distance < 1e-12);
+        }
+        of_first += usize::from(told < sides[0]);
+        of_second += usize::from(told < sides[1]);
+    }
+    assert!(meet > 400 && of_first > 300 && of_second > 300);
+}
+
+/// The same of 128 vertices and 128: a comb, and below it the comb turned over, half a tooth to the side. In turn a tooth of either almost
+/// reaches the other.
+#[test]
+fn clearances_of_full_outlines() {
+    for round in 1..21 {
+        let upper = comb(128);
+        let lower: Vec<Point> = upper.iter().map(|v| (v.0 + 0.5, -v.1 - 0.5)).collect();
+        let [mut first, mut second] = [upper, lower];
+        let tooth = round * 37 % 126;
+        if round % 2 == 0 {
+            first[tooth].1 = -1.8;
+        } else {
+            second[tooth].1 = 1.3;
+        }
+        let flat = |ring: &[Point]| -> Vec<f64> { ring.iter().flat_map(|v| [v.0, v.1]).collect() };
+        let (first, second) = (flat(&first), flat(&second));
+        let sides = [
+            vertex_by_vertex(&first, &second),
+            vertex_by_vertex(&second, &first),
+        ];
+        assert!(sides[round % 2] > sides[1 - round % 2]);
+        let told = clear(&first, &second);
+        assert_eq!(told.to_bits(), sides[1 - round % 2].to_bits());
+        let near = slices::nearest_points(&first, &second).unwrap().unwrap();
+        assert_eq!(near.distance.to_bits(), told.to_bits());
+    }
+}
+
+/// Of several as near: the lowest vertex of the first outline, then the lowest of the second.
+#[test]
+fn the_nearest_points_of_several() {
+    let beyond = [6.0, 0.0, 8.0, 0.0, 8.0, 4.0, 6.0, 4.0];
+    let points = |first: &[f64], second: &[f64]| {
+        let near = slices::nearest_points(first, second).unwrap()?;
+        Some((near.of_first, near.of_second))
+    };
+    assert_eq!(points(&S, &beyond), Some(((4.0, 0.0), (6.0, 0.0))));
+    assert_eq!(points(&beyond, &S), Some(((6.0, 0.0), (4.0, 0.0))));
+    let inner = [3.0, 3.0, 1.0, 3.0, 1.0, 1.0, 3.0, 1.0];
+    // Vertex 0 of the inner one, and the lowest edge of the square that is as near.
+    assert_eq!(points(&S, &inner), Some(((4.0, 3.0), (3.0, 3.0))));
+    assert_eq!(points(&inner, &S), Some(((3.0, 3.0), (4.0, 3.0))));
+    // Vertex 0 of this one is as near as vertex 2 of the square.
+    let around = [
+        5.0, 2.0, 14.0, 2.0, 14.0, 9.0, -4.0, 9.0, -4.0, 5.0, 12.0, 5.0,
+    ];
+    assert_eq!(points(&S, &around), Some(((4.0, 4.0), (4.0, 5.0))));
+    assert_eq!(points(&around, &S), Some(((5.0, 2.0), (4.0, 2.0))));
+    assert_eq!(points(&S, &[4.0, 2.0, 9.0, 0.0, 9.0, 4.0]), None);
 }
 
 /// `outer`, `inner` and `swapped`; then the edges of the first outline and of the second.
@@ -277,6 +412,7 @@ fn what_is_kept_goes_from_thread_to_thread() {
     goes::<Refusal>();
     goes::<Place>();
     goes::<Nearest>();
+    goes::<NearestPoints>();
     goes::<Meeting>();
     goes::<Events>();
     goes::<slices::Rings>();

@@ -34,7 +34,14 @@ fn all_that_may_grow() {
     }
     open.sort_unstable();
     let known = [
-        "Events", "Fed", "Meeting", "Nearest", "NotFed", "Place", "Refusal",
+        "Events",
+        "Fed",
+        "Meeting",
+        "Nearest",
+        "NearestPoints",
+        "NotFed",
+        "Place",
+        "Refusal",
     ];
     assert!(known.iter().all(|name| open.contains(name)), "{open:?}");
 }

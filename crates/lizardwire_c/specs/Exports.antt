@@ -35,9 +35,9 @@ use Rattle.told.specs.Told.{outline-answer, place-answer, nearest-answer, area-
 use Rattle.told.specs.Told.{edge-answer, offset-answer, line-answer}
 unfoldable pub use Rattle.told.specs.Told.{vertices}
 
--- the number of the functions for C, LW_VERSION of the header: it goes up with every function that is added
+-- the number of the functions for C, LW_VERSION of the header: it goes up with every function that is added or changed
 abbrev pub version : ℕ
-version = 2
+version = 3
 
 -- ---- the check of an outline, whose stored ring is written to lent output
 

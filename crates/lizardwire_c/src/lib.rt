@@ -37,7 +37,7 @@ pub(crate) fn given(numbers: &[f64]) -> Outline
 pub extern "C" fn lw_version() -> usize
     ensures { λ r. ⌜ r ≡ Exports.version ⌝ }
 {
-    2
+    3
 }
 
 // math::hypot.
@@ -142,7 +142,7 @@ pub extern "C" fn lw_extent(outline: &[f64]) -> LwLength
     told::length(refusal, a.value)
 }
 
-// The clearance of the second outline from the first, both handed in: 21 of the first, then of the second.
+// The clearance of two outlines handed in (R-1): 21 of the first, then of the second.
 #[no_mangle]
 pub extern "C" fn lw_clearance<'a>(first: &'a [f64], second: &'a [f64]) -> LwLength
     ensures { λ r. ⌜

@@ -23,9 +23,6 @@ use Rattle.areas.specs.Areas.{area-if}
 use Prim.Native.Nat.{ℕ}
 use Rattle.outline_ask.specs.Queries.{placed, measured, footed, neared, edged, within}
 
-pub unless-meeting : (v d g h : Float) (m k : Bool) → v ≡ cond m zero-float d → d ≡ distance g → g ≡ h → m ≡ k → v ≡ cond k zero-float (distance h)
-unless-meeting v d g h m k e₁ e₂ e₃ e₄ = cc
-
 module _ (r s : Refusal) (e : r ≡ s) where
   pub placed-yes : (x c : Containment) → x ≡ c → granted r ≡ true → record { refusal = Granted; place = x } ≡ placed s c
   unfolding placed

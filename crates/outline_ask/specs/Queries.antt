@@ -30,6 +30,7 @@ use Rattle.ring.specs.Ring.{vertex-at, edge-end}
 use Rattle.ring_measure.specs.Measures
 use Rattle.ring_contain.specs.Contains.{ring-contains}
 use Rattle.ring_near.specs.Near
+use Rattle.ring_gap.specs.Gap.{least-between}
 use Rattle.ring_cross.specs.Meet.{rings-meet}
 use Rattle.ring_cross.specs.Pair.{second-outer, ring-pair}
 use Rattle.outline.specs.Outlines.{ask-ring}
@@ -93,12 +94,13 @@ perimeter ps n = measured (ask-ring ps n Granted) (Measures.perimeter ps n)
 unfoldable pub extent : List Float → ℕ → Measured
 extent ps n = measured (ask-ring ps n Granted) (Measures.extent ps n)
 
--- the clearance of a second outline from a first: the least gap over the second's vertices against the first's edges, and 0 if the rings
--- meet
+-- R-1: the least gap over the vertices of each ring against the edges of the other, and 0 if the rings meet
+unfoldable pub clear-between : List Float → ℕ → List Float → ℕ → Float
+clear-between ps n qs m = cond (rings-meet qs m ps n) zero-float (Number.distance (least-between ps n qs m))
+
+-- the clearance of two outlines
 unfoldable pub clearance : List Float → ℕ → List Float → ℕ → Measured
-clearance ps n qs m =
-    measured (ask-ring ps n (ask-ring qs m Granted))
-    (cond (rings-meet qs m ps n) zero-float (Number.distance (Near.least-gap ps n qs m)))
+clearance ps n qs m = measured (ask-ring ps n (ask-ring qs m Granted)) (clear-between ps n qs m)
 
 -- R-3: whether two outlines meet, with the pair of edges
 unfoldable pub meeting : List Float → ℕ → List Float → ℕ → Met
@@ -119,5 +121,5 @@ edge ps n k = edged (ask-ring ps n Granted) (within n k (vertex-at ps k)) (withi
 -- opens every definition above, for a proof that computes with all of them
 unfoldable pub open-queries : Unit {0}
 unfolding placed measured footed neared edged met-by paired contains distance-to-boundary closest-boundary-point nearest area perimeter
-    extent clearance meeting within vertex edge
+    extent clear-between clearance meeting within vertex edge
 open-queries = tt

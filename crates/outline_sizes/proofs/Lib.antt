@@ -1,1 +1,3 @@
 pub mod Paired
+pub mod Finite
+pub mod ClearanceLaws

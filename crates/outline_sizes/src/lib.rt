@@ -79,17 +79,25 @@ pub(crate) fn ask_both<'a>(ps: &'a [f64], n: usize, qs: &'a [f64], m: usize) -> 
     entry::ask_ring(ps, n, entry::ask_ring(qs, m, Refusal::Granted))
 }
 
-// The clearance of the second outline from the first.
+// 0 where the rings meet, else the least gap over the vertices of each against the edges of the other.
+pub(crate) fn clear_between<'a>(ps: &'a [f64], n: usize, qs: &'a [f64], m: usize) -> f64
+    ensures { λ r. ⌜ r ≡ Queries.clear-between (now (ps .entry)) n (now (qs .entry)) m ⌝ }
+{
+    if ring_cross::rings_meet(qs, m, ps, n) {
+        return 0.0;
+    }
+    math::distance(ring_gap::least_between(ps, n, qs, m))
+}
+
+// The clearance of two outlines.
 pub fn clearance<'a>(ps: &'a [f64], n: usize, qs: &'a [f64], m: usize) -> Measured
     ensures { λ r. ⌜ r ≡ Queries.clearance (now (ps .entry)) n (now (qs .entry)) m ⌝ }
 {
     let r = ask_both(ps, n, qs, m);
     if r.granted() {
-        let meet = ring_cross::rings_meet(qs, m, ps, n);
-        let gap = ring_near::least_gap(ps, n, qs, m);
         Measured {
             refusal: Refusal::Granted,
-            value: math::choose(meet, 0.0, math::distance(gap)),
+            value: clear_between(ps, n, qs, m),
         }
     } else {
         unmeasured(r)

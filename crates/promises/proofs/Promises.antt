@@ -160,7 +160,9 @@ use Rattle.promises.specs.Promises as Promises
 use Rattle.promises.specs.Promises.{Accepted, Refused, Units, NoOutline, NoRegion, Lent, LentRings, EveryInput, RootOf, Length}
 use Rattle.promises.specs.Promises.{Sized, SizedRegion, Answers, InOneRing, Whole, Front, Bounds, FrontWhole}
 use Rattle.promises.specs.Promises.{Extent, RegionExtent, Margin, RingsMargin, TrueDistance}
-use Rattle.promises.specs.Promises.{CommonPoint, ShareAPoint, LowestMeeting, Plain, ExactMeeting, Holds, NothingTaken, EveryLine, Drawn}
+use Rattle.ring_gap.specs.Blocks.{gap-between, edge-gap, FromVertices}
+use Rattle.outline_sizes.proofs.ClearanceLaws.{clearance-tells}
+use Rattle.promises.specs.Promises.{gap-from, CommonPoint, ShareAPoint, LowestMeeting, Plain, ExactMeeting, BothSides, Holds, NothingTaken, EveryLine, Drawn}
 
 -- ---- 0. numbers
 
@@ -1077,7 +1079,30 @@ exact-meeting = record {
   inset-source = λ r d rd g l k i a b s. inset-meets-not r d rd g l .source k i a b (share-told s);
 }
 
--- ---- 6. the stream
+-- ---- 6. the clearance
+
+from-either : (ps : List Float) (n : ℕ) (qs : List Float) (m : ℕ) (x : Float) → FromVertices ps n 0 n qs m x →
+    (i : ℕ) × (k : ℕ) × (i < m) × (k < n) × (x ≡ gap-from ps n k (vertex-at qs i))
+unfolding edge-gap gap-between
+from-either ps n qs m x p = (p .vertex, p .gap .edge, p .within, p .gap .before, p .gap .is)
+
+both-sides : BothSides
+unfolding told-length length-answer edge-gap gap-between carried carried-of told values
+both-sides = record {
+  either-way = λ ps qs. ap told-length (clearance-tells .either-way ps _ qs _);
+  answered = λ ps qs a b. ap (λ (r : Refusal). (carried r) .question) (clearance-tells .answered ps _ qs _ a b);
+  first-refused = λ ps qs a. ap (λ (r : Refusal). (carried r) .question) (clearance-tells .first-refused ps _ qs _ a);
+  second-refused = λ ps qs a. ap (λ (r : Refusal). (carried r) .question) (clearance-tells .second-refused ps _ qs _ a);
+  met = λ ps qs h. clearance-tells .met ps _ qs _ h;
+  of-second = λ ps qs i k. clearance-tells .of-second ps _ qs _ i k;
+  of-first = λ ps qs i k. clearance-tells .of-first ps _ qs _ i k;
+  one = λ ps qs a b h. elim (clearance-tells .one ps _ qs _ a b h) [
+    | inl p ↦ inl (from-either ps _ qs _ _ p)
+    | inr p ↦ inr (from-either qs _ ps _ _ p)
+  ];
+}
+
+-- ---- 7. the stream
 
 holding : (held : List ℕ) (count : ℕ) → Holds held count → holds held count ≡ true
 unfolding holds
@@ -1168,7 +1193,7 @@ every-line = record {
   count-read = count-read;
 }
 
--- ---- 7. examples
+-- ---- 8. examples
 
 drawn : Drawn
 unfolding table
@@ -1191,6 +1216,7 @@ promises = record {
   front = front-whole;
   distance = true-distance;
   meeting = exact-meeting;
+  clearance = both-sides;
   stream = every-line;
   drawn = drawn;
 }

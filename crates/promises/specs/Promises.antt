@@ -1,6 +1,6 @@
 -- What is proved, in one file and in reading order: begin here.
 --
--- Parts 1 to 5 are the promises of README.md, "What is promised", by their numbers. Each part is a record whose fields are the promises,
+-- Parts 1 to 6 are the promises of README.md, "What is promised", by their numbers. Each part is a record whose fields are the promises,
 -- with plain words before them. `Promises`, at the end, has all of them, and `proofs/Promises.antt` proves it by citing the theorem of each
 -- crate: where a theorem no longer says as much as is said here, this crate is refused. A name that is used here and not explained is a
 -- definition of the crate from which it comes, and what is left to believe. Assumes nothing.
@@ -766,7 +766,44 @@ pub record ExactMeeting : Type 0 where
       let q = (region-inset r d) .shape in (k l : ℕ) → k ≤ q .holes → l ≤ r .holes →
       ShareAPoint (ring-points q k) (ring-count q k) (ring-points r l) (ring-count r l) → ⊥
 
--- ---- 6. The stream: one answer line a job, wherever the input is cut
+-- ---- 6. The clearance is measured from both sides
+--
+-- The clearance of two outlines handed in, `lw_clearance` (R-1): the least gap over the vertices of each against the edges of the other,
+-- and 0 where the rings meet. A gap is as it is computed: `hypot` of the way to the nearest point of the edge, each step rounded once. So
+-- rings that do not meet can have the clearance 0, where such a gap rounds to 0; `lw_meeting` tells.
+
+-- the gap of the point q from edge k of a ring
+abbrev pub gap-from : List Float → ℕ → ℕ → PlanarPoint → Float
+gap-from ps n k q = (Near.gap-to q (closest-on-segment q (vertex-at ps k) (edge-end ps n k))) .gap
+
+pub record BothSides : Type 0 where
+  -- the same answer, bit for bit, whichever outline is named first, refusals too
+  pub either-way : (ps qs : List Float) → let n = vertices (length ps) in let m = vertices (length qs) in
+      told-length (Query.clearance ps n qs m) ≡ told-length (Query.clearance qs m ps n)
+  -- outlines that pass 21 are answered
+  pub answered : (ps qs : List Float) → let n = vertices (length ps) in let m = vertices (length qs) in
+      proper 128 ps n ≡ true → proper 128 qs m ≡ true → (told-length (Query.clearance ps n qs m)) .refusal ≡ 0
+  -- and no others: 21 of the first, and of the second
+  pub first-refused : (ps qs : List Float) → let n = vertices (length ps) in let m = vertices (length qs) in
+      proper 128 ps n ≡ false → (told-length (Query.clearance ps n qs m)) .refusal ≡ 21
+  pub second-refused : (ps qs : List Float) → let n = vertices (length ps) in let m = vertices (length qs) in
+      proper 128 qs m ≡ false → (told-length (Query.clearance ps n qs m)) .refusal ≡ 21
+  -- 0 where the rings meet
+  pub met : (ps qs : List Float) → let n = vertices (length ps) in let m = vertices (length qs) in
+      rings-meet ps n qs m ≡ true → (told-length (Query.clearance ps n qs m)) .length ≡ zero-float
+  -- no vertex of the second is nearer to an edge of the first, the closing one included, nor one of the first to an edge of the second
+  pub of-second : (ps qs : List Float) (i k : ℕ) → let n = vertices (length ps) in let m = vertices (length qs) in
+      i < m → k < n → lt (gap-from ps n k (vertex-at qs i)) ((told-length (Query.clearance ps n qs m)) .length) ≡ false
+  pub of-first : (ps qs : List Float) (i k : ℕ) → let n = vertices (length ps) in let m = vertices (length qs) in
+      i < n → k < m → lt (gap-from qs m k (vertex-at ps i)) ((told-length (Query.clearance ps n qs m)) .length) ≡ false
+  -- and where outlines that pass 21 do not meet it is one of these gaps
+  pub one : (ps qs : List Float) → let n = vertices (length ps) in let m = vertices (length qs) in
+      proper 128 ps n ≡ true → proper 128 qs m ≡ true → rings-meet ps n qs m ≡ false →
+      let x = (told-length (Query.clearance ps n qs m)) .length in
+      ((i : ℕ) × (k : ℕ) × (i < m) × (k < n) × (x ≡ gap-from ps n k (vertex-at qs i)))
+      ⊎ ((i : ℕ) × (k : ℕ) × (i < n) × (k < m) × (x ≡ gap-from qs m k (vertex-at ps i)))
+
+-- ---- 7. The stream: one answer line a job, wherever the input is cut
 --
 -- The program reads blocks of bytes, takes each by calls, and writes what they put into the output. What is there of a line that a block's
 -- end cuts is held in memory that is lent. That the program hands on the bytes that it reads, and writes those that it is given, is seen in
@@ -860,7 +897,7 @@ pub record EveryLine : Type 0 where
   pub bits-read : (bits : ℕ) → bits < 2 ^ 64 → (is-float (bits-digits bits) ≡ true) × (bits-of (bits-digits bits) ≡ bits)
   pub count-read : (n : ℕ) → n < 1000 → (is-count (count-digits n) ≡ true) × (count-of (count-digits n) ≡ n)
 
--- ---- 7. Drawn examples
+-- ---- 8. Drawn examples
 --
 -- E1 to E14 stand in one table, question and answer a row (examples/specs/Table.antt), and inputs with what the program writes for them in
 -- another (job/specs/Table.antt). A tool that refuses every drawing, that hands back the source, or that hands every drawing the same ring
@@ -890,5 +927,6 @@ pub record Promises : Type 0 where
   pub front : FrontWhole
   pub distance : TrueDistance
   pub meeting : ExactMeeting
+  pub clearance : BothSides
   pub stream : EveryLine
   pub drawn : Drawn

@@ -76,7 +76,7 @@ leads-apart c s g f h = vectors-apart (c .offset) (s .offset) (g .east) (g .nort
 
 -- ---- equal vectors have equal lengths
 
-count-level : (m : ℕ) (e : ℤ) (n : ℕ) (d : ℤ) → m * up e * down d ≡ n * up d * down e → count m e ≡ count n d
+pub count-level : (m : ℕ) (e : ℤ) (n : ℕ) (d : ℤ) → m * up e * down d ≡ n * up d * down e → count m e ≡ count n d
 count-level m e n d h = div-same (m * up e * 2 ^ 1074) (down e) (n * up d * 2 ^ 1074) (down d) (down-pos e) (down-pos d) (swap (m * up e) (down d) ∙ ap (λ (z : ℕ). z * 2 ^ 1074) h ∙ sym (swap (n * up d) (down e)))
   where
     swap : (x y : ℕ) → x * 2 ^ 1074 * y ≡ x * y * 2 ^ 1074

@@ -81,7 +81,7 @@ pub nearest-least : NearestLeast
 unfolding nearest nearest-step nearer
 nearest-least ps n p k l = none-below (λ (t : Nearest). t .gap) (offered ps n p) (nearest-step ps n p) (λ j a. refl) (none-yet p) n k l
 
-finite-length : (x : Float) → abs x ≡ x → lt x infinity ≡ true → distance x ≡ x
+pub finite-length : (x : Float) → abs x ≡ x → lt x infinity ≡ true → distance x ≡ x
 unfolding abs lt finite distance open-number
 finite-length nan e h = absurd (false≢true h)
 finite-length (inf false) e h = absurd (false≢true h)

@@ -11,7 +11,7 @@ use Rattle.segment.specs.Segments.{closest-on-segment}
 use Rattle.plane.specs.Points.{length-of}
 use Rattle.ring.specs.Ring.{vertex-at, edge-end}
 use Rattle.base.specs.Loop.{rounds}
-use Rattle.math.specs.Number.{infinity, zero-float, mul, fmin}
+use Rattle.math.specs.Number.{infinity, zero-float, mul}
 
 unfoldable pub nearer : Nearest → Nearest → Nearest
 nearer candidate best = cond (lt (candidate .gap) (best .gap)) candidate best
@@ -27,13 +27,6 @@ none-yet p = record { gap = infinity; foot = p }
 
 unfoldable pub nearest : List Float → ℕ → PlanarPoint → Nearest
 nearest ps n p = rounds (nearest-step ps n p) n (none-yet p)
-
--- the least gap of a second ring from a first, over the second's vertices
-unfoldable pub clearance-step : List Float → ℕ → List Float → ℕ → Float → Float
-clearance-step ps n qs k s = fmin s ((nearest ps n (vertex-at qs k)) .gap)
-
-unfoldable pub least-gap : List Float → ℕ → List Float → ℕ → Float
-least-gap ps n qs m = rounds (clearance-step ps n qs) m infinity
 
 -- ---- the walk of the code, which takes roots only where two squared lengths are close
 -- A lead is the nearest foot so far, the vector from p to it, and that vector's squared length as computed.
@@ -81,5 +74,5 @@ reached s = record { gap = length-of (s .offset); foot = s .foot }
 
 -- opens every definition above, for a proof that computes with all of them
 unfoldable pub open-near : Unit {0}
-unfolding nearer gap-to nearest-step nearest clearance-step least-gap clearly lead-to no-lead closer leader lead-between lead-step reached
+unfolding nearer gap-to nearest-step nearest clearly lead-to no-lead closer leader lead-between lead-step reached
 open-near = tt

@@ -107,23 +107,3 @@ pub fn nearest_to(ps: &[f64], n: usize, p: PlanarPoint) -> Nearest
     }
     reached(s)
 }
-
-pub(crate) fn clearance_step<'a>(ps: &'a [f64], n: usize, qs: &'a [f64], k: usize, s: f64) -> f64
-    ensures { λ r. ⌜ r ≡ Near.clearance-step (now (ps .entry)) n (now (qs .entry)) k s ⌝ }
-{
-    let near = nearest_to(ps, n, ring::vertex_at(qs, k));
-    math::min(s, near.gap)
-}
-
-// The least gap from the first ring, over the vertices of the second.
-pub fn least_gap<'a>(ps: &'a [f64], n: usize, qs: &'a [f64], m: usize) -> f64
-    ensures { λ r. ⌜ r ≡ Near.least-gap (now (ps .entry)) n (now (qs .entry)) m ⌝ }
-{
-    let mut s = math::infinity();
-    let mut k = 0;
-    while k < m {
-        s = clearance_step(ps, n, qs, k, s);
-        k += 1;
-    }
-    s
-}

@@ -133,7 +133,7 @@ module _ (a b : Float) where
       go false e = e
 
   -- what is not below b is not below the lesser
-  still-not-below : (p : Float) → lt p b ≡ false → lt p (lesser a b) ≡ false
+  pub still-not-below : (p : Float) → lt p b ≡ false → lt p (lesser a b) ≡ false
   unfolding lesser
   still-not-below p f = go (lt a b) refl
     where
@@ -145,7 +145,7 @@ module _ (a b : Float) where
           never false d = d
       go false e = f
 
-  still-not-above : (p : Float) → lt b p ≡ false → lt (greater a b) p ≡ false
+  pub still-not-above : (p : Float) → lt b p ≡ false → lt (greater a b) p ≡ false
   unfolding greater
   still-not-above p f = go (lt b a) refl
     where

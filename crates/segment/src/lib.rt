@@ -93,7 +93,7 @@ pub fn folds_back(shared: PlanarPoint, a: PlanarPoint, b: PlanarPoint) -> bool
 }
 
 // The point from a, along ab, at the fraction t.
-pub(crate) fn along(a: PlanarPoint, ab: PlanarPoint, t: f64) -> PlanarPoint
+pub fn along(a: PlanarPoint, ab: PlanarPoint, t: f64) -> PlanarPoint
     ensures { λ r. ⌜ r ≡ Segments.along a ab t ⌝ }
 {
     PlanarPoint {

@@ -1,16 +1,16 @@
 //! Questions about outlines, regions, points or pairs of rings from a seed, each
 //! with the reference's answer.
 //!
-//! `outlines SEED COUNT [--offsets | --regions | --turns | --pairs] [--tally]`
+//! `outlines SEED COUNT [--offsets | --regions | --turns | --pairs | --clearances] [--tally]`
 
 use std::io::{self, BufWriter, Write};
 use std::process::ExitCode;
 
-use oracle::generate::{offset, pair, question, region, turning};
+use oracle::generate::{clearance, offset, pair, question, region, turning};
 use oracle::outlines::{Question, Tally};
 
-const USAGE: &str =
-    "usage: outlines SEED COUNT [--offsets | --regions | --turns | --pairs] [--tally]";
+const USAGE: &str = "usage: outlines SEED COUNT \
+    [--offsets | --regions | --turns | --pairs | --clearances] [--tally]";
 
 struct Load {
     seed: u64,
@@ -29,6 +29,7 @@ fn load() -> Option<Load> {
             "--regions" => draw = region,
             "--turns" => draw = turning,
             "--pairs" => draw = pair,
+            "--clearances" => draw = clearance,
             "--tally" => tally = true,
             _ => numbers.push(word.parse().ok()?),
         }

@@ -1,6 +1,7 @@
 //! A seeded load of job lines that reaches every refusal.
 
 mod broken;
+mod clearance_questions;
 mod door;
 mod known;
 mod offsets;
@@ -14,6 +15,7 @@ mod shape;
 mod slivers;
 mod turn_questions;
 
+pub use clearance_questions::clearance;
 pub use offsets::offset;
 pub use pair_questions::pair;
 pub use questions::question;
@@ -108,8 +110,7 @@ pub fn names() -> impl Iterator<Item = &'static str> {
 /// Line `index` of a seed, without LF: of one family, or of the load. `None`
 /// where no family of the load has that name.
 pub fn line(seed: u64, index: u64, small: bool, only: Option<&str>) -> Option<Vec<u8>> {
-    let mut start = Draw::new(seed);
-    let mut draw = Draw::new(start.bits() ^ index.wrapping_mul(0xd134_2543_de82_ef95));
+    let mut draw = Draw::at(seed, index);
     drawn_line(&mut draw, small, only)
 }
 

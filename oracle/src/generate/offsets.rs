@@ -57,7 +57,7 @@ fn drawn(draw: &mut Draw) -> (bool, f64, Shape) {
 }
 
 /// Past the vertices of an outline now and then numbers that none reads.
-fn extended(draw: &mut Draw, mut shape: Shape) -> Shape {
+pub(super) fn extended(draw: &mut Draw, mut shape: Shape) -> Shape {
     if draw.once_in(12) {
         let past = draw.pick(&[0.0, 1.0, f64::NAN, 1e300]);
         let more = 1 + draw.below(6);
@@ -68,9 +68,7 @@ fn extended(draw: &mut Draw, mut shape: Shape) -> Shape {
 
 /// Question `index` of a seed about an offset.
 pub fn offset(seed: u64, index: u64) -> Question {
-    let mut start = Draw::new(seed.rotate_left(32));
-    let mut draw = Draw::new(start.bits() ^ index.wrapping_mul(0xd134_2543_de82_ef95));
-    let draw = &mut draw;
+    let draw = &mut Draw::at(seed.rotate_left(32), index);
     let (outward, distance, shape) = match draw.below(48) {
         0..=2 => drawn(draw),
         3..=5 => {

@@ -29,7 +29,7 @@ fn on_grid(draw: &mut Draw) -> [Ring; 2] {
 
 /// Two stars about one point, or about two: many edges meet, or one star is
 /// within the other, or they lie apart.
-fn stars(draw: &mut Draw) -> [Ring; 2] {
+pub(super) fn stars(draw: &mut Draw) -> [Ring; 2] {
     let (n, m) = match draw.below(20) {
         0 => (ROOM, ROOM),
         1..=5 => [count(draw); 2].into(),
@@ -48,7 +48,7 @@ fn stars(draw: &mut Draw) -> [Ring; 2] {
 
 /// Two rectangles: at a corner, along a side, corner to side, one within the
 /// other, side on side, crossed; more vertices on a side of one of them.
-fn rectangles(draw: &mut Draw) -> [Ring; 2] {
+pub(super) fn rectangles(draw: &mut Draw) -> [Ring; 2] {
     let low = [-4, -4].map(|from| draw.whole(from, 4) as f64);
     let high = low.map(|x| x + draw.whole(1, 6) as f64);
     let mut rings = [square(4.0), rectangle(low, high)];
@@ -68,7 +68,7 @@ fn between(a: Point, b: Point, part: f64) -> Point {
 
 /// A star, and a ring of which a vertex lies on a vertex or an edge of it, or
 /// beside that by a last bit.
-fn touching(draw: &mut Draw) -> [Ring; 2] {
+pub(super) fn touching(draw: &mut Draw) -> [Ring; 2] {
     let n = count(draw);
     let first = star(draw, n, 4.0, 9.0);
     let place = draw.below(n);
@@ -94,7 +94,7 @@ fn nudge(draw: &mut Draw, rings: &mut [Ring; 2]) {
 
 /// Both rings changed alike, then each begun elsewhere, walked backwards or
 /// closed, and exchanged: now and then each.
-fn dressed(draw: &mut Draw, mut rings: [Ring; 2]) -> [Ring; 2] {
+pub(super) fn dressed(draw: &mut Draw, mut rings: [Ring; 2]) -> [Ring; 2] {
     if draw.once_in(2) {
         mirror(draw, &mut rings);
     }
@@ -122,7 +122,7 @@ fn dressed(draw: &mut Draw, mut rings: [Ring; 2]) -> [Ring; 2] {
 
 /// Question 21 refuses the shape; its numbers are as many as before, or those of
 /// two vertices.
-fn spoil(draw: &mut Draw, shape: &mut Shape) {
+pub(super) fn spoil(draw: &mut Draw, shape: &mut Shape) {
     if draw.once_in(4) {
         *shape = shape_of(shape.numbers[..4].to_vec());
     } else {
@@ -133,9 +133,7 @@ fn spoil(draw: &mut Draw, shape: &mut Shape) {
 
 /// Question `index` of a seed about the edges at which two rings meet.
 pub fn pair(seed: u64, index: u64) -> Question {
-    let mut start = Draw::new(seed.rotate_left(16));
-    let mut draw = Draw::new(start.bits() ^ index.wrapping_mul(0xd134_2543_de82_ef95));
-    let draw = &mut draw;
+    let draw = &mut Draw::at(seed.rotate_left(16), index);
     let rings = match draw.below(12) {
         0..=3 => on_grid(draw),
         4..=6 => stars(draw),

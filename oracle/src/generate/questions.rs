@@ -571,9 +571,7 @@ fn area(draw: &mut Draw) -> f64 {
 
 /// Question `index` of a seed.
 pub fn question(seed: u64, index: u64) -> Question {
-    let mut start = Draw::new(!seed);
-    let mut draw = Draw::new(start.bits() ^ index.wrapping_mul(0xd134_2543_de82_ef95));
-    let draw = &mut draw;
+    let draw = &mut Draw::at(!seed, index);
     match draw.below(40) {
         0..=16 => Question::Outline(outline(draw)),
         17..=22 => {

@@ -137,9 +137,7 @@ fn far(draw: &mut Draw) -> u64 {
 
 /// Question `index` of a seed about a region.
 pub fn region(seed: u64, index: u64) -> Question {
-    let mut start = Draw::new(seed.rotate_left(16));
-    let mut draw = Draw::new(start.bits() ^ index.wrapping_mul(0xd134_2543_de82_ef95));
-    let draw = &mut draw;
+    let draw = &mut Draw::at(seed.rotate_left(16), index);
     match draw.below(20) {
         0..=2 => Question::Region(any(draw).1),
         3 => {

@@ -186,9 +186,7 @@ fn spoil(draw: &mut Draw, points: &mut [Point]) {
 
 /// Question `index` of a seed about a turn, a meeting or a fold.
 pub fn turning(seed: u64, index: u64) -> Question {
-    let mut start = Draw::new(seed.rotate_left(48));
-    let mut draw = Draw::new(start.bits() ^ index.wrapping_mul(0xd134_2543_de82_ef95));
-    let draw = &mut draw;
+    let draw = &mut Draw::at(seed.rotate_left(48), index);
     let kind = draw.below(3);
     if kind == 1 {
         let mut four = some_points(draw, 4);

@@ -2,7 +2,7 @@
 
 use super::{granted, numbers_of, points_of};
 use crate::refusal::Refusal;
-use crate::slices::{self, Events, Meeting, Nearest, Place, Point};
+use crate::slices::{self, Events, Meeting, Nearest, NearestPoints, Place, Point};
 
 /// Lent memory, long enough for any outline.
 fn room() -> [f64; crate::OUTLINE_NUMBERS] {
@@ -91,10 +91,30 @@ impl Outline {
         granted(slices::extent(&self.numbers))
     }
 
-    /// The clearance of another outline from this one: the least distance from a vertex of the other to an edge of this one, and
-    /// 0 if an edge of one meets an edge of the other.
+    /// The clearance of this outline and another: the least distance from a vertex of either to an edge of the other, and 0 if an
+    /// edge of one meets an edge of the other. It is the same, bit for bit, whichever is named first. One outline inside the other
+    /// is measured the same way. A distance can round to 0 where they do not meet: [`meeting`](Self::meeting) tells.
+    ///
+    /// ```
+    /// use lizardwire::Outline;
+    ///
+    /// let collar = Outline::new(&[(-3.0, 0.0), (3.0, 0.0), (3.0, -2.0), (-3.0, -2.0)])?;
+    /// // A sleeve with a spike.
+    /// let sleeve = Outline::new(&[(-5.0, 10.0), (-1.0, 6.0), (0.0, 0.2), (1.0, 6.0), (5.0, 10.0)])?;
+    /// assert_eq!((collar.clearance(&sleeve), sleeve.clearance(&collar)), (0.2, 0.2));
+    /// let near = collar.nearest_points(&sleeve).unwrap();
+    /// assert_eq!((near.of_first, near.of_second), ((0.0, 0.0), (0.0, 0.2)));
+    /// # Ok::<(), lizardwire::Refusal>(())
+    /// ```
     pub fn clearance(&self, other: &Self) -> f64 {
         granted(slices::clearance(&self.numbers, &other.numbers))
+    }
+
+    /// Where this outline and another come nearest; none where they meet. The distance is their [`clearance`](Self::clearance). Each
+    /// vertex of this one is asked for the nearest point of the other, from vertex 0 on, then each of the other for that of this
+    /// one. Of several as near the first counts.
+    pub fn nearest_points(&self, other: &Self) -> Option<NearestPoints> {
+        granted(slices::nearest_points(&self.numbers, &other.numbers))
     }
 
     /// Two edges, one of this outline and one of another, that share a point, which is told exactly; none where no two do, as where

@@ -28,6 +28,18 @@ pub struct Nearest {
     pub point: Point,
 }
 
+/// Where two outlines come nearest: a point of each, one of them a vertex.
+#[derive(Debug, Clone, Copy, PartialEq)]
+#[non_exhaustive]
+pub struct NearestPoints {
+    /// How far they are apart: the clearance of the outlines.
+    pub distance: f64,
+    /// The point of the outline that is named first: of `self` in [`Outline::nearest_points`](crate::Outline::nearest_points).
+    pub of_first: Point,
+    /// The point of the outline that is named second: of the other.
+    pub of_second: Point,
+}
+
 /// Two edges that meet, one of each of two outlines.
 ///
 /// The outline of fewer vertices is in the outer walk, of two with as many the first. So `outer` and `inner` are not in the order in

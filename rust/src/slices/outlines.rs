@@ -1,6 +1,6 @@
 //! Outlines as they are drawn, and outlines handed in.
 
-use super::answers::{self, Events, Meeting, Nearest, Place, Point};
+use super::answers::{self, Events, Meeting, Nearest, NearestPoints, Place, Point};
 use crate::ffi;
 use crate::refusal::Refusal;
 
@@ -48,13 +48,42 @@ pub fn extent(outline: &[f64]) -> Result<f64, Refusal> {
     answers::length(unsafe { ffi::lw_extent(outline.as_ptr(), outline.len()) })
 }
 
-/// The clearance of the second outline from the first, both handed in: the least distance from a vertex of the second to an edge
-/// of the first, and 0 if an edge of one meets an edge of the other: 21 of the first, then of the second.
+/// The clearance of two outlines handed in: the least distance from a vertex of either to an edge of the other, and 0 if an edge of
+/// one meets an edge of the other: 21 of the first, then of the second. It is the same, bit for bit, whichever is named first.
 pub fn clearance(first: &[f64], second: &[f64]) -> Result<f64, Refusal> {
     // SAFETY: both pointers lead to as many numbers as are said.
     answers::length(unsafe {
         ffi::lw_clearance(first.as_ptr(), first.len(), second.as_ptr(), second.len())
     })
+}
+
+/// Where two outlines handed in come nearest, none where they meet: 21 of the first, then of the second. The distance is their
+/// [`clearance`]. Each vertex of the first is asked for the nearest point of the second, from vertex 0 on, then each of the second
+/// for that of the first. Of several as near the first counts.
+pub fn nearest_points(first: &[f64], second: &[f64]) -> Result<Option<NearestPoints>, Refusal> {
+    if meeting(first, second)?.is_some() {
+        return Ok(None);
+    }
+    let mut found: Option<NearestPoints> = None;
+    for (asking, asked, back) in [(first, second, false), (second, first, true)] {
+        for numbers in asking.chunks_exact(2) {
+            let vertex = (numbers[0], numbers[1]);
+            let Nearest { distance, point } = nearest(asked, vertex)?;
+            if found.map_or(true, |least| distance < least.distance) {
+                let [of_first, of_second] = if back {
+                    [point, vertex]
+                } else {
+                    [vertex, point]
+                };
+                found = Some(NearestPoints {
+                    distance,
+                    of_first,
+                    of_second,
+                });
+            }
+        }
+    }
+    Ok(found)
 }
 
 /// Two edges of two outlines handed in that meet, which is told exactly; none where no two do. The outline of fewer vertices is in

@@ -1,20 +1,19 @@
 -- The live vertices of a tidied front all have a velocity: a vertex without one stands between two edges that face opposite ways, which tidying takes out.
 use lib.Ieee
 use mathlib.Core.Path.{_≡_, refl, ap, _∙_, subst}
-use mathlib.Core.Bool.{Bool, true, false, cond, not, _&&_}
+use mathlib.Core.Bool.{Bool, true, false, cond, not}
 use mathlib.Core.List.{List}
-use Prim.Native.Nat.{ℕ, _-_, _*_}
+use Prim.Native.Nat.{ℕ, _*_}
 use native.Mathlib.Omega.{arith}
-use native.Mathlib.Nat.{mul-comm, add-comm}
-use lib.Dec.{ltb, eqb}
-use borrow.Author.Tests.{ltb-true, ltb-false}
-use lib.Ieee.{Float, nan, inf, fin, binary64, lt, neg, sum, round, unlike, up, down}
+use lib.Dec.{eqb}
+use lib.Ieee.{Float, nan, inf, fin, binary64, lt, neg, round, unlike, up, down}
 use Rattle.plane.specs.declared.PlanarPoint.{PlanarPoint}
 use Rattle.front.specs.declared.Line.{Line}
 use Rattle.front.specs.declared.Edge.{Edge}
 use Rattle.front.specs.declared.Place.the-variants.{Nowhere, There}
 use Rattle.math.specs.Number
 use Rattle.math.specs.Number.{add, mul, div, one}
+use Rattle.math.proofs.Swap.{add-swap}
 use Rattle.plane.specs.Plane.{dot}
 use Rattle.front.specs.Thresholds.{opposite}
 use Rattle.front.specs.Lines.{direction, normal, velocity-by, velocity}
@@ -27,7 +26,7 @@ use Rattle.front.proofs.Demand.Tidying.{Tidied, tidied-apart}
 use Rattle.front.proofs.Demand.Views.{alive-of}
 use Rattle.front.proofs.Demand.Lines.{Lined}
 
--- ---- the sign of a product, the order of a sum
+-- ---- the sign of a product
 
 unlike-not : (s t : Bool) → unlike (not s) (not t) ≡ unlike s t
 unlike-not true true = refl
@@ -44,45 +43,6 @@ mul-neg (inf s) (fin t n d) = ap (λ (b : Bool). cond (eqb n 0) nan (inf b)) (un
 mul-neg (fin s m e) nan = refl
 mul-neg (fin s m e) (inf t) = ap (λ (b : Bool). cond (eqb m 0) nan (inf b)) (unlike-not s t)
 mul-neg (fin s m e) (fin t n d) = ap (λ (b : Bool). round binary64 b (m * up e * (n * up d)) (down e * down d)) (unlike-not s t)
-
--- a difference, told from either side
-less : (s : Bool) (a b c : ℕ) (x y : Bool) → ltb a b ≡ x → ltb b a ≡ y
-    → cond x (round binary64 (not s) (b - a) c) (round binary64 (s && y) (a - b) c) ≡ cond y (round binary64 s (a - b) c) (round binary64 (not s && x) (b - a) c)
-less s a b c true true p q = absurd (omega (arith, ltb-true a b p, ltb-true b a q))
-less true a b c true false p q = refl
-less false a b c true false p q = refl
-less true a b c false true p q = refl
-less false a b c false true p q = refl
-less true a b c false false p q = ap (λ (k : ℕ). round binary64 false k c) (omega (arith, ltb-false a b p, ltb-false b a q))
-less false a b c false false p q = ap (λ (k : ℕ). round binary64 false k c) (omega (arith, ltb-false a b p, ltb-false b a q))
-
-sum-swap : (s : Bool) (a : ℕ) (t : Bool) (b c : ℕ) → sum binary64 s a t b c ≡ sum binary64 t b s a c
-unfolding sum
-sum-swap true a true b c = ap (λ (k : ℕ). round binary64 true k c) (add-comm a b)
-sum-swap false a false b c = ap (λ (k : ℕ). round binary64 false k c) (add-comm a b)
-sum-swap true a false b c = less true a b c (ltb a b) (ltb b a) refl refl
-sum-swap false a true b c = less false a b c (ltb a b) (ltb b a) refl refl
-
-same-infinity : (s t : Bool) → add (inf s) (inf t) ≡ add (inf t) (inf s)
-unfolding lib.Ieee.add
-same-infinity true true = refl
-same-infinity true false = refl
-same-infinity false true = refl
-same-infinity false false = refl
-
-add-swap : (x y : Float) → add x y ≡ add y x
-unfolding lib.Ieee.add
-add-swap nan nan = refl
-add-swap nan (inf t) = refl
-add-swap nan (fin t n d) = refl
-add-swap (inf s) nan = refl
-add-swap (inf s) (inf t) = same-infinity s t
-add-swap (inf s) (fin t n d) = refl
-add-swap (fin s m e) nan = refl
-add-swap (fin s m e) (inf t) = refl
-add-swap (fin s m e) (fin t n d) =
-    sum-swap s (m * up e * down d) t (n * up d * down e) (down e * down d)
-    ∙ ap (sum binary64 t (n * up d * down e) s (m * up e * down d)) (mul-comm (down e) (down d))
 
 pub same-bits : SameBits
 unfolding dot

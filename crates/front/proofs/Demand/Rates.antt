@@ -45,7 +45,7 @@ pub record SmallPoint (k : ℕ) (p : PlanarPoint) : Type 0 where
   pub east : Small k (p .east)
   pub north : Small k (p .north)
 
-dot-small : (j k : ℕ) (a b : PlanarPoint) → suc (j + k) ≤ 1023 → SmallPoint j a → SmallPoint k b → Small (suc (j + k)) (dot a b)
+pub dot-small : (j k : ℕ) (a b : PlanarPoint) → suc (j + k) ≤ 1023 → SmallPoint j a → SmallPoint k b → Small (suc (j + k)) (dot a b)
 unfolding dot
 dot-small j k a b h u v =
     add-small (j + k) (Number.mul (a .east) (b .east)) (Number.mul (a .north) (b .north)) h

@@ -1,0 +1,4 @@
+pub mod Gap
+pub mod GapExamples
+pub mod Blocks
+pub mod Between
