@@ -66,6 +66,7 @@ int main(void)
     test_outlines();
     test_regions();
     test_stream();
+    test_hairlines();
     if (failures)
         printf("%d of %d checks failed\n", failures, checks);
     return failures != 0;

@@ -39,10 +39,19 @@ extern double many[258];
 /* A number that every shape is refused with: not finite, or far beyond 1e9. */
 extern const double bad_numbers[7];
 
+/* lw_check and lw_outline refuse these numbers alike, and nothing is written. */
+void bad_outline(const double *numbers, size_t count, size_t refusal, size_t first, size_t second, double value);
+/* lw_region and lw_region_inset, whatever the distance, refuse them alike, and nothing is written. */
+void bad_region(const double *numbers, size_t count, const size_t *lengths, size_t rings, LwRegion due);
+/* The answer to a job line, in so much room; it is these bytes, and nothing is written behind them. */
+LwLine answer(const char *line, size_t room);
+int says(LwLine a, const char *line);
+
 /* The tests, by what is asked about. */
 void test_header(void);
 void test_outlines(void);
 void test_regions(void);
 void test_stream(void);
+void test_hairlines(void);
 
 #endif

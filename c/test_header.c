@@ -21,11 +21,14 @@ static int only(size_t refusal)
 /* Each refusal has one line of words of its own. */
 static void words(void)
 {
-    CHECK(LW_GRANTED == 0 && LW_REFUSED_ODD == 1 && LW_REFUSED_JOB == 22);
+    static const size_t none[] = {LW_REFUSED_JOB + 1, LW_REFUSED_HAIRLINE - 1, LW_REFUSED_HAIRLINE + 1, SIZE_MAX};
+    CHECK(LW_GRANTED == 0 && LW_REFUSED_ODD == 1 && LW_REFUSED_JOB == 22 && LW_REFUSED_HAIRLINE == 27);
     CHECK(strcmp(lw_words(LW_GRANTED), "granted") == 0);
     for (size_t k = LW_REFUSED_ODD; k <= LW_REFUSED_JOB; k++)
         CHECK(strlen(lw_words(k)) > 10 && strchr(lw_words(k), '\n') == NULL && only(k));
-    CHECK(strcmp(lw_words(LW_REFUSED_JOB + 1), "refused") == 0 && strcmp(lw_words(SIZE_MAX), "refused") == 0);
+    CHECK(strcmp(lw_words(LW_REFUSED_HAIRLINE), "an edge is shorter than 0.000001") == 0);
+    for (size_t k = 0; k < COUNT(none); k++)
+        CHECK(strcmp(lw_words(none[k]), "refused") == 0);
 }
 
 static void numbers(void)

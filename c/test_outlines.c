@@ -49,8 +49,7 @@ static void refused_outline(LwOutline a, size_t refusal, size_t first, size_t se
     CHECK(a.ring == 0 && a.first == first && a.second == second && a.value == value && a.count == 0);
 }
 
-/* The check, and the check with the outline written, refuse alike. */
-static void bad_outline(const double *numbers, size_t count, size_t refusal, size_t first, size_t second, double value)
+void bad_outline(const double *numbers, size_t count, size_t refusal, size_t first, size_t second, double value)
 {
     refused_outline(lw_check(numbers, count), refusal, first, second, value);
     refused_outline(lw_outline(numbers, count, fresh(), ROOM), refusal, first, second, value);

@@ -52,8 +52,7 @@ static void joined(void)
     CHECK(wrote(inner, 16));
 }
 
-/* The region, and its inset whatever the distance, are refused alike. */
-static void bad_region(const double *numbers, size_t count, const size_t *lengths, size_t rings, LwRegion due)
+void bad_region(const double *numbers, size_t count, const size_t *lengths, size_t rings, LwRegion due)
 {
     const LwRegion a = lw_region(numbers, count, lengths, rings, fresh(), ROOM);
     const LwRegionOffset b = lw_region_inset(numbers, count, lengths, rings, 1, lent, ROOM);

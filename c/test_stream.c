@@ -13,13 +13,13 @@ static int all(const uint8_t *list, size_t from, size_t to, int byte)
     return from >= to || (list[from] == byte && memcmp(list + from, list + from + 1, to - from - 1) == 0);
 }
 
-static LwLine answer(const char *line, size_t room)
+LwLine answer(const char *line, size_t room)
 {
     memset(bytes, '#', sizeof bytes);
     return lw_job_line((const uint8_t *)line, strlen(line), bytes, room);
 }
 
-static int says(LwLine a, const char *line)
+int says(LwLine a, const char *line)
 {
     size_t n = strlen(line);
     return a.refusal == 0 && a.count == n && memcmp(bytes, line, n) == 0 && all(bytes, n, sizeof bytes, '#');

@@ -21,7 +21,7 @@
 
 #include "lizardwire.h"
 
-#define VERSION "0.3.0"
+#define VERSION "0.4.0"
 
 static const char *const HELP =
     "usage: lizardwire [--words] [-o OUT] [FILE..]\n"

@@ -3,8 +3,8 @@
  * Link with target/shared/liblizardwire.so or target/shared/liblizardwire.a
  * (`tools/library` builds both). The library is for x86-64 Linux. It allocates
  * nothing, keeps nothing between calls, calls nothing of yours, and may be
- * called from any number of threads at once. A job line takes 200 KB of stack,
- * a region's inset 169, an outline's offset 131, the check of a region 53, any
+ * called from any number of threads at once. A job line takes 208 KB of stack,
+ * a region's inset 169, an outline's offset 129, the check of a region 53, any
  * other question about a region 26, and anything else less than 3 KB (a KB is
  * 1,000 bytes).
  *
@@ -41,6 +41,15 @@
  * and indices count from 0: ring 0 is the outer one, ring k is hole k - 1, and
  * edge k runs from vertex k to the next. 4, 5 and 6 can also come from an
  * offset's result; `ring` is then its place among the finished rings.
+ *
+ * 27 is asked of a ring as it is drawn, by lw_check, lw_outline, lw_region,
+ * lw_region_inset and job lines: an edge, the closing one too, whose length is below
+ * 0.000001 (the double nearest to it), by lw_hypot of the differences of its ends. It
+ * comes after 4 to 7 of that ring, and before 8 and 9 of it. It is not asked of a shape
+ * handed in, nor of an offset's result. So a result with such an edge is granted, and
+ * can be offset again as it is (lw_inset, lw_outset, lw_stored_region_inset); handed
+ * in as a drawing it is refused: (0,0) (4,0) (4,4) (1,4) (0,3) inset by 1.7071065 has
+ * an edge of 2.3e-7.
  */
 #ifndef LIZARDWIRE_H
 #define LIZARDWIRE_H
@@ -98,7 +107,9 @@ typedef enum LwRefusal {
     /* a shape or a stream's state handed in is none: counts or coordinates out of bounds */
     LW_REFUSED_SHAPE = 21,
     /* an ill-formed job line */
-    LW_REFUSED_JOB = 22
+    LW_REFUSED_JOB = 22,
+    /* an edge shorter than 0.000001 (ring) */
+    LW_REFUSED_HAIRLINE = 27
 } LwRefusal;
 
 /* One line of words for the number of a refusal, without what it carries. */
@@ -126,13 +137,14 @@ static inline const char *lw_words(size_t refusal) {
     case LW_REFUSED_SHORT: return "the lent memory is too short";
     case LW_REFUSED_SHAPE: return "this is not a shape, or not a stream's state";
     case LW_REFUSED_JOB: return "this is not a job line";
+    case LW_REFUSED_HAIRLINE: return "an edge is shorter than 0.000001";
     default: return refusal ? "refused" : "granted";
     }
 }
 
 /* The version of this header. It goes up with every function that is added or changed; one
  * that is here stays as it is for as long as the number in the shared library's name does. */
-#define LW_VERSION 3
+#define LW_VERSION 4
 
 /* The most that a shape holds. */
 #define LW_VERTICES 128      /* an outline, or the outer ring of a region */
@@ -257,7 +269,8 @@ double lw_hypot(double x, double y);
 /* ---- outlines as they are drawn */
 
 /* Are these numbers an outline, and of how many vertices?
- * Refusals: 1, 2, 4 to 9, ring 0. One closing repeat of the first vertex is dropped. */
+ * Refusals: 1, 2, 4 to 7, 27, 8, 9, ring 0. One closing repeat of the first vertex is
+ * dropped. */
 LwOutline lw_check(const double *numbers, size_t count);
 
 /* The outline of these numbers, written to `out`: the numbers as they are, or,
@@ -270,8 +283,10 @@ LwOutline lw_outline(const double *numbers, size_t count, double *out, size_t ou
  * The functions below take an outline as lw_outline, lw_inset and lw_outset write
  * it, and work on what they are given as it is: `count` is that of its numbers, two a
  * vertex. 21 is an odd count, fewer than 3 or more than 128 vertices, or a number that
- * is not within +-1e9. The outline runs counter-clockwise; that is not asked, but the
- * offsets go by it. lw_outline turns one round that runs clockwise. */
+ * is not within +-1e9. 27 is not asked, so that an inset with an edge that is too short
+ * for a drawing can be inset again. The outline runs counter-clockwise; that is not
+ * asked either, but the offsets go by it. lw_outline turns one round that runs
+ * clockwise. */
 
 /* Where does the point lie? Any finite point may be asked. The boundary is told
  * exactly. Refusals: 21, then 2 of the point (0 east, 1 north). */
@@ -331,15 +346,18 @@ LwOffset lw_outset(const double *outline, size_t count, double distance, double 
 /* The region of these numbers: `lengths` has the vertex count of each ring,
  * the outer one first. Its rings are written to `out` one after the other, each
  * stored as lw_outline does (holes too run counter-clockwise).
- * Refusals: 1 to 12, then 20. */
+ * Refusals: 1 to 3; 4 to 7, 27, 8 and 9 ring by ring, the outer one first; 10 to 12,
+ * then 20. */
 LwRegion lw_region(const double *numbers, size_t count, const size_t *lengths, size_t rings,
                    double *out, size_t out_count);
 
-/* The region is checked as lw_region does (1 to 12), then its outer ring moves
- * in and its holes grow. Refusals: 1 to 12, 13, 14, then 4, 5, 6 and 15 to 19
- * as the offset meets them, then 20. Above 0 each vertex of each ring that is
- * written lies at least as far as lw_inset says from every edge of every ring
- * handed in, `largest` being the largest absolute coordinate of them all. */
+/* The region is checked as lw_region does (1 to 12, and 27), then its outer ring
+ * moves in and its holes grow. Refusals: those of lw_region but for 20, then 13, 14,
+ * then 4, 5, 6 and 15 to 19 as the offset meets them, then 20. Above 0 each vertex of
+ * each ring that is written lies at least as far as lw_inset says from every edge of
+ * every ring handed in, `largest` being the largest absolute coordinate of them all.
+ * What it writes can be inset again by lw_stored_region_inset; by this function only
+ * where no edge of it is below 27's length. */
 LwRegionOffset lw_region_inset(const double *numbers, size_t count, const size_t *lengths, size_t rings,
                                double distance, double *out, size_t out_count);
 
@@ -347,11 +365,11 @@ LwRegionOffset lw_region_inset(const double *numbers, size_t count, const size_t
  *
  * The functions below take rings as lw_region and the insets write them, one after the
  * other, with the vertex count of each, the outer one first: `counts` and `rings` of the
- * answer, and lw_numbers of these. They work on what they are given as it is; but for
- * lw_given_region, whether holes lie inside and apart is not asked again. 21 is an odd
- * count, no ring, counts that do not add up to the points, more than 8 holes, an outer
- * ring of fewer than 3 or more than 128 vertices, a hole of fewer than 3 or more than 32,
- * or a number that is not within +-1e9.
+ * answer, and lw_numbers of these. They work on what they are given as it is: 27 is not
+ * asked, and but for lw_given_region neither is whether holes lie inside and apart.
+ * 21 is an odd count, no ring, counts that do not add up to the points, more than 8
+ * holes, an outer ring of fewer than 3 or more than 128 vertices, a hole of fewer than 3
+ * or more than 32, or a number that is not within +-1e9.
  *
  * Each ring runs counter-clockwise, holes too. That is not asked: of a hole that runs
  * clockwise, as in GeoJSON, an inset can be granted without it, and the cage then runs
@@ -380,9 +398,9 @@ LwRegion lw_without_holes(const double *outline, size_t count, double *out, size
 /* Does 21 pass this region? Its rings and counts are told. Refusals: 21. */
 LwRegion lw_stored_region(const double *numbers, size_t count, const size_t *counts, size_t rings);
 
-/* The inset of a region as it is, so that an inset can be inset again. Refusals: 21, 13, 14,
- * then 4, 5, 6 and 15 to 19 as the offset meets them, then 20. How far its vertices lie from
- * what is handed in, lw_region_inset says. */
+/* The inset of a region as it is, so that an inset can be inset again, also one with an edge
+ * that 27 refuses in a drawing. Refusals: 21, 13, 14, then 4, 5, 6 and 15 to 19 as the offset
+ * meets them, then 20. How far its vertices lie from what is handed in, lw_region_inset says. */
 LwRegionOffset lw_stored_region_inset(const double *numbers, size_t count, const size_t *counts, size_t rings,
                                       double distance, double *out, size_t out_count);
 
@@ -415,7 +433,8 @@ LwOutline lw_region_hole(const double *numbers, size_t count, const size_t *coun
 /* ---- job lines */
 
 /* The answer to one job line, both without LF. A refused job is an answer, too:
- * `no` and the number. Refusals: 20, `count` then being the bytes needed. */
+ * `no` and the number. A job is asked what a drawing is, 27 too (`no,27`).
+ * Refusals: 20, `count` then being the bytes needed. */
 LwLine lw_job_line(const uint8_t *line, size_t length, uint8_t *out, size_t out_length);
 
 /* A stream of job lines: makes a state in lent memory, LW_STREAM_BYTES of it. Feed the input

@@ -1,6 +1,7 @@
 //! The answer to a job: the questions in their order.
 
 use std::fmt::Write;
+use std::sync::atomic::{AtomicBool, Ordering};
 
 use crate::error::{KernelError, NavigationError};
 use crate::events::{self, Events};
@@ -16,6 +17,8 @@ pub const HOLE_ROOM: usize = 32;
 pub const HOLES: usize = 8;
 /// Largest distance.
 pub const LARGEST: f64 = 1e12;
+/// Least length of an edge that comes in from outside.
+pub const LEAST_EDGE: f64 = 1e-6;
 
 type Outer = Polygon<ROOM>;
 type Hole = Polygon<HOLE_ROOM>;
@@ -28,7 +31,7 @@ pub type Whole = Region<ROOM, HOLE_ROOM, HOLES>;
 pub struct Refusal {
     /// Number of the question.
     pub number: u32,
-    /// Ring, for 4 to 9.
+    /// Ring, for 4 to 9 and 27.
     pub ring: Option<usize>,
     /// Whole numbers carried.
     pub wholes: Vec<usize>,
@@ -109,7 +112,7 @@ fn answer_by(job: &Job, single: Single) -> Answer {
 fn run(job: &Job, single: Single) -> Result<Vec<Vec<PlanarPoint>>, Refusal> {
     if job.counts.len() == 1 && (job.outset || single == Single::Outline) {
         let rings = rings(&job.counts, &job.numbers)?;
-        let outer = outer(&rings[0])?;
+        let outer: Outer = door(&rings[0], 0)?;
         let distance = checked_distance(job.distance)?;
         let result = if job.outset {
             outer.outset(distance)
@@ -124,18 +127,71 @@ fn run(job: &Job, single: Single) -> Result<Vec<Vec<PlanarPoint>>, Refusal> {
     Ok(rings_of(&region.inset(distance).map_err(of_offset)?))
 }
 
-fn outer(ring: &[PlanarPoint]) -> Result<Outer, Refusal> {
-    Outer::new(ring).map_err(|error| of_ring(error).in_ring(0))
+static HAIRLINES_PASS: AtomicBool = AtomicBool::new(false);
+
+/// From now on 27 is left out, or asked.
+pub fn pass_hairlines(on: bool) {
+    HAIRLINES_PASS.store(on, Ordering::Relaxed);
 }
 
-/// The region that the reference makes of ring lengths and numbers: questions
-/// 1 to 12.
+/// Whether an edge is below the least length, the closing one too; one closing
+/// repeat is dropped before.
+fn has_hairline(ring: &[PlanarPoint]) -> bool {
+    let kept = match ring {
+        [first, .., last] if first == last => &ring[..ring.len() - 1],
+        _ => ring,
+    };
+    let mut edges = kept.iter().zip(kept.iter().cycle().skip(1));
+    edges.any(|(a, b)| a.distance_to(*b).metres() < LEAST_EDGE)
+}
+
+/// How a ring is made of points: `door` or `handed`.
+type Make<const N: usize> = fn(&[PlanarPoint], usize) -> Result<Polygon<N>, Refusal>;
+
+/// A ring that comes in from outside, and its place: 27 is asked after 4 to 7
+/// and before 8 and 9.
+pub(crate) fn door<const N: usize>(
+    ring: &[PlanarPoint],
+    place: usize,
+) -> Result<Polygon<N>, Refusal> {
+    let made = handed(ring, place);
+    let before = matches!(&made, Err(refusal) if refusal.number <= 7);
+    if !before && has_hairline(ring) && !HAIRLINES_PASS.load(Ordering::Relaxed) {
+        return Err(Refusal::of(27, &[], &[]).in_ring(place));
+    }
+    made
+}
+
+/// A ring of a shape handed in, as the reference makes it: 4 to 9.
+pub(crate) fn handed<const N: usize>(
+    ring: &[PlanarPoint],
+    place: usize,
+) -> Result<Polygon<N>, Refusal> {
+    Polygon::new(ring).map_err(|error| of_ring(error).in_ring(place))
+}
+
+/// The region of ring lengths and numbers that come in from outside: questions
+/// 1 to 12 and 27.
 pub fn new_region(counts: &[usize], numbers: &[f64]) -> Result<Whole, Refusal> {
+    region_by(counts, numbers, door, door)
+}
+
+/// The region that the reference makes of them, 27 not asked.
+pub fn handed_region(counts: &[usize], numbers: &[f64]) -> Result<Whole, Refusal> {
+    region_by(counts, numbers, handed, handed)
+}
+
+fn region_by(
+    counts: &[usize],
+    numbers: &[f64],
+    outer: Make<ROOM>,
+    hole: Make<HOLE_ROOM>,
+) -> Result<Whole, Refusal> {
     let rings = rings(counts, numbers)?;
-    let outer = outer(&rings[0])?;
+    let outer = outer(&rings[0], 0)?;
     let mut holes: Vec<Hole> = Vec::new();
     for (place, ring) in rings.iter().enumerate().skip(1) {
-        holes.push(Hole::new(ring).map_err(|error| of_ring(error).in_ring(place))?);
+        holes.push(hole(ring, place)?);
     }
     Whole::new(outer, &holes).map_err(of_region)
 }

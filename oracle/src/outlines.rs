@@ -9,12 +9,13 @@
 use std::cmp::Ordering;
 use std::fmt;
 
-use crate::answer::{bits, checked_distance, of_offset, of_ring, points, Refusal, ROOM};
+use crate::answer::{bits, checked_distance, door, handed, of_offset, points, Refusal, ROOM};
 use crate::error::{KernelError, NavigationError};
 use crate::events;
 use crate::job::Job;
 use crate::region::{Area, Containment, PlanarPoint, Polygon};
 use crate::regions::{self, Changed, Given};
+use crate::tally::LAST;
 
 /// Largest coordinate of question 21.
 pub(crate) const MAX_COORDINATE: f64 = 1e9;
@@ -29,6 +30,15 @@ pub struct Shape {
     pub count: u64,
     /// East then north, any bits; from two a vertex on nothing is read.
     pub numbers: Vec<f64>,
+}
+
+impl Shape {
+    /// The shape of an outline, as it is stored.
+    pub fn new(outline: &Outline) -> Self {
+        let numbers = numbers_of(outline);
+        let count = numbers.len() as u64 / 2;
+        Self { count, numbers }
+    }
 }
 
 /// What is asked.
@@ -66,10 +76,12 @@ pub enum Question {
     Fold([[f64; 2]; 3]),
     /// The edges at which two rings meet.
     Pair(Shape, Shape),
+    /// The inset of a region handed in.
+    Again(f64, Given),
 }
 
 /// How many kinds of questions there are.
-pub const KINDS: usize = 16;
+pub const KINDS: usize = 17;
 
 /// Names of the kinds.
 pub const NAMES: [&str; KINDS] = [
@@ -89,25 +101,32 @@ pub const NAMES: [&str; KINDS] = [
     "meet",
     "fold",
     "pair",
+    "again",
 ];
 
 impl Question {
     /// What a job asks: of one ring an offset of its outline, or the outline
     /// where that is refused; of more an inset of their region.
     pub fn of_job(job: &Job) -> Self {
-        if job.counts.len() == 1 {
-            let Ok(outline) = new_outline(&job.numbers) else {
-                return Self::Outline(job.numbers.clone());
-            };
-            let numbers = numbers_of(&outline);
-            let count = numbers.len() as u64 / 2;
-            return Self::Offset(job.outset, job.distance, Shape { count, numbers });
+        if job.counts.len() != 1 {
+            return Self::RegionInset(job.distance, Given::of_job(job));
         }
-        let given = Given {
-            lengths: job.counts.iter().map(|count| *count as u64).collect(),
-            numbers: job.numbers.clone(),
-        };
-        Self::RegionInset(job.distance, given)
+        match new_outline(&job.numbers) {
+            Ok(outline) => Self::Offset(job.outset, job.distance, Shape::new(&outline)),
+            Err(_) => Self::Outline(job.numbers.clone()),
+        }
+    }
+
+    /// What a job asks of its shape handed in: of one ring an offset, of more an
+    /// inset. None where the reference makes no such shape.
+    pub fn of_given(job: &Job) -> Option<Self> {
+        if job.counts.len() != 1 {
+            let stored = regions::stored_given(&Given::of_job(job))?;
+            return Some(Self::Again(job.distance, stored));
+        }
+        let outline = handed_outline(&job.numbers).ok()?;
+        let shape = Shape::new(&outline);
+        Some(Self::Offset(job.outset, job.distance, shape))
     }
 
     /// The kind's number.
@@ -129,6 +148,7 @@ impl Question {
             Self::Meet(_) => 13,
             Self::Fold(_) => 14,
             Self::Pair(..) => 15,
+            Self::Again(..) => 16,
         }
     }
 
@@ -156,7 +176,7 @@ impl Question {
             ]
             .concat(),
             Self::Region(given) => regions::fields(given),
-            Self::RegionInset(distance, given) => {
+            Self::RegionInset(distance, given) | Self::Again(distance, given) => {
                 [raw(&[*distance]), regions::fields(given)].concat()
             }
             Self::RegionPoint(given, point, changed) => [
@@ -191,6 +211,7 @@ impl Question {
                 vec![u64::from(Outline::oracle_folds_back(*shared, *a, *b))]
             }
             Self::Pair(first, second) => pair(first, second),
+            Self::Again(distance, given) => regions::again(given, *distance),
         }
     }
 
@@ -212,9 +233,16 @@ impl Question {
     }
 }
 
-/// The outline that the reference makes of numbers: questions 1, 2 and 4 to 9.
+/// The outline of numbers that come in from outside: questions 1, 2, 4 to 9
+/// and 27.
 pub fn new_outline(numbers: &[f64]) -> Result<Outline, Refusal> {
-    Outline::new(&points(numbers)?).map_err(|error| of_ring(error).in_ring(0))
+    door(&points(numbers)?, 0)
+}
+
+/// The outline that the reference makes of numbers, 27 not asked: what a shape
+/// handed in has to be.
+pub fn handed_outline(numbers: &[f64]) -> Result<Outline, Refusal> {
+    handed(&points(numbers)?, 0)
 }
 
 /// The stored vertices' numbers.
@@ -270,7 +298,7 @@ fn proper(shape: &Shape) -> Result<&[f64], Refusal> {
 /// gives, so the numbers have to be those of a stored outline.
 fn proper_outline(shape: &Shape) -> Result<Outline, Refusal> {
     let numbers = proper(shape)?;
-    let outline = new_outline(numbers).expect("an outline");
+    let outline = handed_outline(numbers).expect("an outline");
     assert_eq!(numbers_of(&outline), numbers, "as it is stored");
     Ok(outline)
 }
@@ -474,7 +502,7 @@ pub fn turn_number(turn: f64) -> u64 {
 #[derive(Debug, Clone, Default)]
 pub struct Tally {
     /// By kind and number; 0 is granted.
-    pub numbers: [[usize; 23]; KINDS],
+    pub numbers: [[usize; LAST + 1]; KINDS],
     /// Completed collapses, dividing splits and joining splits of the offsets.
     pub events: [u64; 3],
 }
@@ -484,7 +512,11 @@ impl Tally {
     pub fn add(&mut self, question: &Question) {
         let answer = question.answer();
         self.numbers[question.kind()][answer[0] as usize] += 1;
-        if matches!(question, Question::Offset(..) | Question::RegionInset(..)) {
+        let offset = matches!(
+            question,
+            Question::Offset(..) | Question::RegionInset(..) | Question::Again(..)
+        );
+        if offset {
             for (sum, count) in self.events.iter_mut().zip(&answer[5..]) {
                 *sum += count;
             }

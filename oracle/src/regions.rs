@@ -1,9 +1,11 @@
 //! Questions about a region and the reference's answers, as fields.
 
 use crate::answer::{
-    bits, checked_distance, new_region, of_offset, rings_of, Refusal, Whole, HOLES, HOLE_ROOM, ROOM,
+    bits, checked_distance, handed_region, new_region, of_offset, rings_of, Refusal, Whole, HOLES,
+    HOLE_ROOM, ROOM,
 };
 use crate::events;
+use crate::job::Job;
 use crate::outlines::{carried, checked, number_and_whole, place_number, MAX_COORDINATE, OUTSIDE};
 
 /// A region as numbers: ring lengths, the outer ring first, and coordinates.
@@ -41,6 +43,14 @@ struct Held {
     counts: [u64; HOLES],
     outer: Vec<f64>,
     inner: Vec<f64>,
+}
+
+/// Question 21 of one ring; from two numbers a vertex on nothing is read.
+fn proper_ring(count: u64, room: usize, numbers: &[f64]) -> bool {
+    (3..=room as u64).contains(&count)
+        && numbers[..2 * count as usize]
+            .iter()
+            .all(|x| x.abs() <= MAX_COORDINATE)
 }
 
 impl Held {
@@ -81,16 +91,10 @@ impl Held {
 
     /// Question 21.
     fn proper(&self) -> bool {
-        let ring = |count: u64, room: usize, numbers: &[f64]| {
-            (3..=room as u64).contains(&count)
-                && numbers[..2 * count as usize]
-                    .iter()
-                    .all(|x| x.abs() <= MAX_COORDINATE)
-        };
-        ring(self.count, ROOM, &self.outer)
+        proper_ring(self.count, ROOM, &self.outer)
             && self.holes <= HOLES as u64
             && (0..self.holes as usize)
-                .all(|k| ring(self.counts[k], HOLE_ROOM, &self.inner[2 * HOLE_ROOM * k..]))
+                .all(|k| proper_ring(self.counts[k], HOLE_ROOM, &self.inner[2 * HOLE_ROOM * k..]))
     }
 
     /// What is read of it: counts, and the numbers of so many vertices.
@@ -110,10 +114,40 @@ impl Held {
     }
 }
 
+impl Given {
+    /// The rings of a job.
+    pub fn of_job(job: &Job) -> Self {
+        Self {
+            lengths: job.counts.iter().map(|count| *count as u64).collect(),
+            numbers: job.numbers.clone(),
+        }
+    }
+
+    /// The lengths as counts.
+    fn counts(&self) -> Vec<usize> {
+        self.lengths.iter().map(|n| *n as usize).collect()
+    }
+}
+
 /// The region of these lengths and numbers.
 pub fn made(given: &Given) -> Result<Whole, Refusal> {
-    let lengths: Vec<usize> = given.lengths.iter().map(|n| *n as usize).collect();
-    new_region(&lengths, &given.numbers)
+    new_region(&given.counts(), &given.numbers)
+}
+
+/// The region that the reference makes of them, as it is stored; 27 is not
+/// asked.
+pub fn stored_given(given: &Given) -> Option<Given> {
+    let region = handed_region(&given.counts(), &given.numbers).ok()?;
+    Some(given_of(&region))
+}
+
+/// The lengths and numbers of a region.
+pub fn given_of(region: &Whole) -> Given {
+    let rings = rings_of(region);
+    Given {
+        lengths: rings.iter().map(|ring| ring.len() as u64).collect(),
+        numbers: rings.iter().flatten().flat_map(|p| p.xy()).collect(),
+    }
 }
 
 /// Whether the reference can be asked about the region with this change: it is
@@ -152,15 +186,55 @@ pub fn region(given: &Given) -> Vec<u64> {
     [carried.to_vec(), stored(made.as_ref().ok())].concat()
 }
 
-fn inset_of(given: &Given, distance: f64) -> Result<Whole, Refusal> {
-    let region = made(given)?;
+/// Question 21 of a region handed in ring after ring.
+pub fn proper(given: &Given) -> bool {
+    let mut left = &given.numbers[..];
+    for (place, count) in given.lengths.iter().enumerate() {
+        let room = if place == 0 { ROOM } else { HOLE_ROOM };
+        let cut = 2 * (*count).min(ROOM as u64) as usize;
+        if cut > left.len() || !proper_ring(*count, room, left) {
+            return false;
+        }
+        left = &left[cut..];
+    }
+    left.is_empty() && (1..=1 + HOLES).contains(&given.lengths.len())
+}
+
+/// Question 21, then the region: the reference is asked on what its `new`
+/// gives, so the numbers have to be those of a stored region.
+fn proper_region(given: &Given) -> Result<Whole, Refusal> {
+    if !proper(given) {
+        return Err(Refusal::of(21, &[], &[]));
+    }
+    let region = handed_region(&given.counts(), &given.numbers).expect("a region");
+    assert_eq!(given_of(&region), *given, "as it is stored");
+    Ok(region)
+}
+
+fn inset_of(region: &Whole, distance: f64) -> Result<Whole, Refusal> {
     region.inset(checked_distance(distance)?).map_err(of_offset)
 }
 
-/// What is carried, the completed events, then the region.
+/// What the inset of a region handed in leaves.
+pub fn left_of(given: &Given, distance: f64) -> Option<Given> {
+    let left = inset_of(&proper_region(given).ok()?, distance);
+    Some(given_of(&left.ok()?))
+}
+
+/// The inset of a region from numbers.
 pub fn inset(given: &Given, distance: f64) -> Vec<u64> {
+    told(|| inset_of(&made(given)?, distance))
+}
+
+/// The inset of a region handed in.
+pub fn again(given: &Given, distance: f64) -> Vec<u64> {
+    told(|| inset_of(&proper_region(given)?, distance))
+}
+
+/// What is carried, the completed events, then the region.
+fn told(inset: impl Fn() -> Result<Whole, Refusal>) -> Vec<u64> {
     events::clear();
-    let made = inset_of(given, distance);
+    let made = inset();
     let events = events::events();
     let counts = [events.collapses, events.divides, events.joins];
     [

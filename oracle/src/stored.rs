@@ -4,25 +4,39 @@
 use std::collections::BTreeMap;
 
 use crate::answer::{answer_line, Answer};
-use crate::generate::{self, clearance, offset, pair, question, region, turning};
+use crate::generate::{self, again, clearance, offset, pair, question, region, turning};
 use crate::job::{Job, LONGEST};
-use crate::outlines::{new_outline, numbers_of, Question, Shape};
+use crate::outlines::{handed_outline, Question, Shape};
 use crate::regions::{Changed, Given};
 
 /// Job lines for places that few drawn jobs reach, with words about them.
 const CHOSEN: &str = include_str!("../chosen.jobs");
 
+/// What stands before a job of `chosen.jobs` whose shape is handed in.
+pub const GIVEN: &str = "given ";
+
+/// The lines of `chosen.jobs`.
+fn chosen_lines() -> impl Iterator<Item = &'static str> {
+    let lines = CHOSEN.lines();
+    lines.filter(|line| !line.is_empty() && !line.starts_with('#'))
+}
+
 /// The job lines of `chosen.jobs`.
 pub fn chosen() -> impl Iterator<Item = &'static [u8]> {
-    let lines = CHOSEN.lines();
-    let lines = lines.filter(|line| !line.is_empty() && !line.starts_with('#'));
+    let lines = chosen_lines().filter(|line| !line.starts_with(GIVEN));
+    lines.map(str::as_bytes)
+}
+
+/// Those whose shape is handed in: as a job 27 refuses each.
+pub fn chosen_given() -> impl Iterator<Item = &'static [u8]> {
+    let lines = chosen_lines().filter_map(|line| line.strip_prefix(GIVEN));
     lines.map(str::as_bytes)
 }
 
 /// Bytes that the program reads at once, and that it writes at once.
 pub const BLOCK: usize = 65_536;
 /// Where a job line lies across the end of a block.
-pub const CUT: usize = 5 * BLOCK;
+pub const CUT: usize = 6 * BLOCK;
 /// Drawn jobs of each answer.
 const EACH: usize = 12;
 /// Bytes of the line across `CUT` that come before it.
@@ -111,11 +125,7 @@ pub fn answers() -> String {
 
 /// A shape as it is stored.
 fn shape(numbers: &[f64]) -> Shape {
-    let outline = new_outline(numbers).expect("an outline");
-    Shape {
-        count: outline.vertices().len() as u64,
-        numbers: numbers_of(&outline),
-    }
+    Shape::new(&handed_outline(numbers).expect("an outline"))
 }
 
 /// A collar, and a sleeve with a spike toward its upper edge; as they are
@@ -175,22 +185,24 @@ pub fn chosen_questions() -> Vec<Question> {
     asked
 }
 
-/// The questions of the stored list: 700 of each of the seeds 1, 2 and 3, 700
-/// offsets of seed 27, 500 questions about regions of seed 200, 450 about
+/// The questions of the stored list: 700 of each of the seeds 41, 42 and 43, 700
+/// offsets of seed 27, 500 questions about regions of seed 207, 450 about
 /// points of seed 1, 400 about pairs of rings of seed 1, 400 about clearances of
-/// seed 1, the chosen jobs: of one ring as an offset, or as an outline where that
-/// is refused, of more as an inset of a region; and the chosen questions.
+/// seed 1, 320 about regions handed in of seed 6, the chosen jobs: of one ring as
+/// an offset, or as an outline where that is refused, of more as an inset of a
+/// region; those with shapes handed in; and the chosen questions.
 pub fn questions() -> impl Iterator<Item = Question> {
-    let asked = (1..=3).flat_map(|seed| (0..700).map(move |index| question(seed, index)));
+    let asked = (41..=43).flat_map(|seed| (0..700).map(move |index| question(seed, index)));
     let asked = asked.chain((0..700).map(|index| offset(27, index)));
-    let asked = asked.chain((0..500).map(|index| region(200, index)));
+    let asked = asked.chain((0..500).map(|index| region(207, index)));
     let asked = asked.chain((0..450).map(|index| turning(1, index)));
     let asked = asked.chain((0..400).map(|index| pair(1, index)));
     let asked = asked.chain((0..400).map(|index| clearance(1, index)));
-    let asked = asked.chain(chosen().map(|line| {
-        let job = Job::read(line).expect("a chosen job");
-        Question::of_job(&job)
-    }));
+    let asked = asked.chain((0..320).map(|index| again(6, index)));
+    let read = |line| Job::read(line).expect("a chosen job");
+    let asked = asked.chain(chosen().map(move |line| Question::of_job(&read(line))));
+    let given = move |line| Question::of_given(&read(line)).expect("a shape");
+    let asked = asked.chain(chosen_given().map(given));
     asked.chain(chosen_questions())
 }
 

@@ -4,15 +4,20 @@ use std::fmt;
 
 use crate::answer::Answer;
 
+/// The last refusal's number.
+pub const LAST: usize = 27;
+
 /// How often each number, and how many events.
 #[derive(Debug, Clone, Default)]
 pub struct Tally {
     /// Answers with `ok`.
     pub accepted: usize,
     /// Refusals by number.
-    pub refused: [usize; 23],
+    pub refused: [usize; LAST + 1],
     /// Of these, 4, 5 and 6 of a piece.
     pub pieces: [usize; 3],
+    /// Of these, 27 of a hole.
+    pub of_holes: usize,
     /// Of these, 17 before a finished ring was visited.
     pub walk: usize,
     /// Accepted answers with a collapse, a division, a join.
@@ -30,6 +35,7 @@ impl Tally {
                 match refusal.number {
                     4..=6 if answer.rings > 0 => self.pieces[refusal.number as usize - 4] += 1,
                     17 if answer.rings == 0 => self.walk += 1,
+                    27 if refusal.ring > Some(0) => self.of_holes += 1,
                     _ => {}
                 }
             }
@@ -64,6 +70,7 @@ impl fmt::Display for Tally {
                     self.pieces[number - 4]
                 )?,
                 17 => writeln!(f, "no,17 {count}, in the walk {}", self.walk)?,
+                27 => writeln!(f, "no,27 {count}, of a hole {}", self.of_holes)?,
                 1..=19 | 22 => writeln!(f, "no,{number} {count}")?,
                 _ => {}
             }

@@ -3,9 +3,9 @@
 //!
 //! Of a question of each kind, granted and refused, or answered with 0 and with
 //! another number, every field of the answer is wrong once, the others being
-//! right; and once each it has a field too many and one too few. Pairs of rings
-//! and clearances have the answers of other readings as well. Some lines cannot
-//! be read at all.
+//! right; and once each it has a field too many and one too few. Pairs of rings,
+//! clearances and short edges have the answers of other readings as well. Some
+//! lines cannot be read at all.
 
 use crate::outlines::{Question, Shape, KINDS};
 use crate::regions::{Changed, Given};
@@ -14,6 +14,9 @@ use crate::stored::{COLLAR, SLEEVE};
 /// A triangle, and a square of side 10.
 const TRIANGLE: &[f64] = &[0.0, 0.0, 4.0, 0.0, 0.0, 3.0];
 const SQUARE: &[f64] = &[0.0, 0.0, 10.0, 0.0, 10.0, 10.0, 0.0, 10.0];
+
+/// A hole of it with a short edge.
+const HAIRLINE: &[f64] = &[4.0, 4.0, 4.0 + 9e-7, 4.0, 5.0, 5.0];
 
 fn shape(numbers: &[f64]) -> Shape {
     Shape {
@@ -41,6 +44,7 @@ pub fn asked() -> Vec<Question> {
         // 9 with two edges, and 5 with the value.
         Question::Outline(crossed),
         Question::Outline(vec![0.0, 0.0, 2e9, 0.0, 0.0, 1.0]),
+        Question::Outline(vec![0.0, 0.0, 9e-7, 0.0, 4.0, 4.0]),
         Question::Contains(triangle(), [1.0, 1.0]),
         Question::Contains(triangle(), [1.0, f64::NAN]),
         Question::Nearest(triangle(), [5.0, 1.0]),
@@ -60,8 +64,9 @@ pub fn asked() -> Vec<Question> {
         // 16 with the distance, after a collapse.
         Question::Offset(false, 6.0, shape(SQUARE)),
         Question::Region(given(&hole)),
-        // 4 of ring 1, and 11.
+        // 4 of ring 1, 27 of it, and 11.
         Question::Region(given(&hole[..4])),
+        Question::Region(given(HAIRLINE)),
         Question::Region(given(&[4.0, 4.0, 14.0, 4.0, 4.0, 5.0])),
         Question::RegionInset(1.0, given(&hole)),
         // Granted after joins, and 17 with the distance.
@@ -82,6 +87,10 @@ pub fn asked() -> Vec<Question> {
         Question::Pair(shape(SQUARE), shape(&[8.0, 8.0, 14.0, 8.0, 14.0, 14.0])),
         Question::Pair(triangle(), shape(&far)),
         Question::Pair(triangle(), shape(&far[..4])),
+        // Granted with a short edge, 21, and 16 with the distance.
+        Question::Again(0.5, given(HAIRLINE)),
+        Question::Again(0.5, given(&hole[..4])),
+        Question::Again(6.0, given(HAIRLINE)),
     ]
 }
 
@@ -152,6 +161,84 @@ pub fn misread_clearances() -> Vec<Misread<2>> {
     ]
 }
 
+/// A square with a corner cut off, and a distance by which the cut's edge has
+/// shrunk to 2.3e-7.
+pub const CUT: &[f64] = &[0.0, 0.0, 4.0, 0.0, 4.0, 4.0, 1.0, 4.0, 0.0, 3.0];
+pub const SHRUNK: f64 = 1.7071065;
+
+/// What that inset leaves.
+pub fn left_of_cut() -> Shape {
+    let answer = Question::Offset(false, SHRUNK, shape(CUT)).answer();
+    let numbers: Vec<f64> = answer[9..].iter().map(|x| f64::from_bits(*x)).collect();
+    shape(&numbers)
+}
+
+/// Rings and regions with the answers of other readings of 27: of which edges
+/// are asked, by which length, in which place, of which shapes.
+pub fn misread_hairlines() -> Vec<(&'static str, Question, Vec<u64>)> {
+    let no = |number: u64, fields: usize| [vec![number], vec![0; fields - 1]].concat();
+    let bits = |numbers: &[f64]| numbers.iter().map(|x| x.to_bits()).collect::<Vec<u64>>();
+    let refused = |name, ring: &[f64]| (name, Question::Outline(ring.to_vec()), no(27, 6));
+    let granted = |name, ring: &[f64]| {
+        let told = [vec![0; 5], vec![ring.len() as u64 / 2], bits(ring)].concat();
+        (name, Question::Outline(ring.to_vec()), told)
+    };
+    let flat = vec![0.0, 0.0, 9e-7, 0.0, 2.0, 0.0];
+    let crossed = vec![0.0, 0.0, 9e-7, 0.0, 4.0, 4.0, 4.0, 0.0, 0.0, 2.0];
+    let repeated = &[0.0, 0.0, 9e-7, 0.0, 4.0, 4.0, 4.0, 4.0, 0.0, 4.0];
+    let closed = &[TRIANGLE, &[0.0, 0.0]].concat();
+    let holed = given(HAIRLINE);
+    let counts = [2, 4, 3, 0, 0, 0, 0, 0, 0, 0].to_vec();
+    let unasked = [vec![0; 5], counts, bits(&holed.numbers)].concat();
+    let left = left_of_cut();
+    let again = Given {
+        lengths: vec![left.count],
+        numbers: left.numbers.clone(),
+    };
+    let cut = Given {
+        lengths: vec![5],
+        numbers: CUT.to_vec(),
+    };
+    let piece = Question::Offset(false, SHRUNK, shape(CUT));
+    vec![
+        refused("just that long", &[0.0, 0.0, 1e-6, 0.0, 4.0, 4.0]),
+        granted(
+            "no closing edge",
+            &[0.0, 0.0, 4.0, 0.0, 4.0, 4.0, 7e-7, 7e-7],
+        ),
+        ("after 8", Question::Outline(flat), no(8, 6)),
+        (
+            "after 9",
+            Question::Outline(crossed),
+            vec![9, 0, 1, 3, 0, 0],
+        ),
+        refused("before 7", repeated),
+        refused("before 5", &[0.0, 0.0, 9e-7, 0.0, 2e9, 1.0]),
+        refused("before 4", &[0.0, 0.0, 9e-7, 0.0]),
+        refused(
+            "by the greater side",
+            &[0.0, 0.0, 7.08e-7, 7.08e-7, 0.0, 4.0],
+        ),
+        granted("by both sides added", &[0.0, 0.0, 7e-7, 7e-7, 0.0, 4.0]),
+        refused("by east alone", SQUARE),
+        refused("the repeat not dropped", closed),
+        ("no hole asked", Question::Region(holed.clone()), unasked),
+        (
+            "the outer ring's number",
+            Question::RegionInset(0.5, holed),
+            no(27, 18),
+        ),
+        ("handed in", Question::Offset(false, 0.1, left), no(27, 9)),
+        ("handed in", Question::Again(0.1, again), no(27, 18)),
+        ("a piece asked", piece, no(27, 9)),
+        (
+            "a piece asked",
+            Question::RegionInset(SHRUNK, cut),
+            no(27, 18),
+        ),
+    ]
+}
+
 /// The wrong answers to a question.
 fn answers(question: &Question) -> Vec<Vec<u64>> {
     let right = question.answer();
@@ -193,6 +280,8 @@ pub fn lines() -> Vec<(Option<usize>, String)> {
     lines.extend(pairs.map(|(_, asked, told)| line(&asked, &told)));
     let clearances = misread_clearances().into_iter();
     lines.extend(clearances.map(|(_, asked, told)| line(&asked, &told)));
+    let hairlines = misread_hairlines().into_iter();
+    lines.extend(hairlines.map(|(_, asked, told)| line(&asked, &told)));
     lines.extend(unread().map(|line| (None, line)));
     lines
 }

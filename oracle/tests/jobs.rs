@@ -7,6 +7,7 @@ use oracle::draw::Draw;
 use oracle::generate;
 use oracle::job::{Job, LONGEST};
 use oracle::lines::next_line;
+use oracle::outlines::Question;
 use oracle::region::{Containment, PlanarPoint, Polygon};
 use oracle::tally::Tally;
 
@@ -409,13 +410,19 @@ fn rare_refusals() {
         (refusal(&answer).number, refusal(&answer).ring),
         (5, Some(1))
     );
-    // While loading: nothing is counted, no ring is visited.
+    // While loading: nothing is counted, no ring is visited. As a job it is 27,
+    // so the region is handed in.
     let outer: Ring = &[[-5e8, -5e8], [5e8, -5e8], [5e8, 5e8], [-5e8, 5e8]];
     let hole: Ring = &[[0.0, 0.0], [1e-9, 0.0], [0.0, 1e-9]];
     refused(
         &inset(1.0, &[outer, hole]),
-        "no,16;ring=;wholes=;floats=3ff0000000000000;events=0,0,0",
+        "no,27;ring=1;wholes=;floats=;events=0,0,0",
     );
+    let text = line(false, 1.0, &[outer, hole]);
+    let job = Job::read(text.as_bytes()).expect("a job");
+    let handed = Question::of_given(&job).expect("a region").answer();
+    assert_eq!(handed[..5], [16, 0, 0, 0, 1.0_f64.to_bits()]);
+    assert_eq!(handed[5..], [0; 13]);
     // 128 and the edges of that ring still to load.
     let round = |count: u32, radius: f64| -> Vec<[f64; 2]> {
         let at = |k| f64::from(k) / f64::from(count) * core::f64::consts::TAU;
@@ -508,9 +515,11 @@ fn tally(seed: u64, count: u64, small: bool) -> Tally {
 fn the_load_reaches_every_number() {
     for seed in [1, 20_261_115] {
         let tally = tally(seed, 5000, false);
-        for number in (1..=19).chain([22]) {
+        for number in (1..=19).chain([22, 27]) {
             assert!(tally.refused[number] > 4, "seed {seed}, {number}\n{tally}");
         }
+        let outer = tally.refused[27] - tally.of_holes;
+        assert!(outer > 50 && tally.of_holes > 20, "seed {seed}\n{tally}");
         for piece in tally.pieces {
             assert!(piece > 4, "seed {seed}\n{tally}");
         }
@@ -557,7 +566,7 @@ fn the_load_reaches_rare_places() {
 #[test]
 fn the_small_load() {
     let tally = tally(7, 5000, true);
-    for number in [1, 2, 3, 4, 5, 7, 8, 9, 11, 12, 13, 14, 16, 17, 18, 22] {
+    for number in [1, 2, 3, 4, 5, 7, 8, 9, 11, 12, 13, 14, 16, 17, 18, 22, 27] {
         assert!(tally.refused[number] > 4, "{number}\n{tally}");
     }
     // These need more vertices.
@@ -588,6 +597,6 @@ fn the_load_is_fixed() {
             sum = (sum ^ u64::from(*byte)).wrapping_mul(0x100_0000_01b3);
         }
     }
-    assert_eq!(format!("{sum:016x}"), "99892cadf12cf5a0");
+    assert_eq!(format!("{sum:016x}"), "74a1cc357e3d41d2");
     assert!(generate::line(1, 0, true, Some("corridor")).is_none());
 }

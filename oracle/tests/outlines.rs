@@ -5,9 +5,9 @@ mod cases;
 use std::collections::BTreeSet;
 
 use cases::Cases;
-use oracle::answer::answer_line;
+use oracle::answer::{answer_line, LEAST_EDGE};
 use oracle::outlines::{turn_number, Question, Shape, Tally, KINDS};
-use oracle::regions::Given;
+use oracle::regions::{left_of, made, Given};
 use oracle::{stored, turns, wrong};
 
 const S: &[[f64; 2]] = &[[0.0, 0.0], [4.0, 0.0], [4.0, 4.0], [0.0, 4.0]];
@@ -206,7 +206,7 @@ fn the_stored_list_reaches_every_number() {
         tally.add(&question);
     }
     let reached: [&[usize]; KINDS] = [
-        &[0, 1, 2, 4, 5, 6, 7, 8, 9],
+        &[0, 1, 2, 4, 5, 6, 7, 8, 9, 27],
         &[0, 2, 21],
         &[0, 2, 21],
         &[0, 21],
@@ -215,15 +215,16 @@ fn the_stored_list_reaches_every_number() {
         &[0, 2],
         &[0, 2, 14],
         &[0, 4, 5, 13, 14, 15, 16, 17, 18, 21],
-        &[0, 1, 2, 3, 4, 5, 6, 7, 8, 9, 10, 11, 12],
+        &[0, 1, 2, 3, 4, 5, 6, 7, 8, 9, 10, 11, 12, 27],
         &[
-            0, 1, 2, 3, 4, 5, 6, 7, 8, 9, 10, 11, 12, 13, 14, 15, 16, 17, 18, 19,
+            0, 1, 2, 3, 4, 5, 6, 7, 8, 9, 10, 11, 12, 13, 14, 15, 16, 17, 18, 19, 27,
         ],
         &[0, 2, 21],
         &[0, 1, 2, 3],
         &[0, 1],
         &[0, 1],
         &[0, 21],
+        &[0, 4, 5, 6, 13, 14, 15, 16, 17, 18, 19, 21],
     ];
     for (kind, numbers) in tally.numbers.iter().enumerate() {
         for (number, count) in numbers.iter().enumerate() {
@@ -306,6 +307,12 @@ fn outline_cases(numbers: &[f64], answer: &[u64]) -> Vec<(&'static str, bool)> {
             "odd and not finite",
             number == 1 && numbers.iter().any(|x| !x.is_finite()),
         ),
+        ("a hairline", number == 27 && !closed),
+        ("a hairline, closed", number == 27 && closed),
+        ("a hairline in 128", number == 27 && ring.len() >= 127),
+        ("a hairline in three", number == 27 && ring.len() == 3),
+        ("just that long", number == 0 && range(LEAST_EDGE)),
+        ("a hairline of no area", number == 27 && twice_area == 0.0),
     ]
 }
 
@@ -441,6 +448,7 @@ fn other_cases(question: &Question, answer: &[u64]) -> Vec<(&'static str, bool)>
         Question::Region(_) | Question::RegionInset(..) | Question::RegionPoint(..) => {
             region_cases(question, answer)
         }
+        Question::Again(distance, given) => again_cases(*distance, given, answer),
         Question::Turn(_) | Question::Meet(_) | Question::Fold(_) => point_cases(question, answer),
         // In tests/pairs.rs.
         Question::Pair(..) => vec![],
@@ -678,6 +686,111 @@ fn region_cases(question: &Question, answer: &[u64]) -> Vec<(&'static str, bool)
     }
 }
 
+/// The rings of a region, told from its first vertex.
+fn from_first(given: &Given) -> Vec<Vec<[f64; 2]>> {
+    let first = [given.numbers[0], given.numbers[1]];
+    let mut vertices = given.numbers.chunks_exact(2);
+    let vertex = |p: &[f64]| [p[0] - first[0], p[1] - first[1]];
+    let ring = |count: &u64| {
+        vertices
+            .by_ref()
+            .take(*count as usize)
+            .map(vertex)
+            .collect()
+    };
+    given.lengths.iter().map(ring).collect()
+}
+
+/// The length of the shortest edge.
+fn least_edge(rings: &[Vec<[f64; 2]>]) -> f64 {
+    let edges = rings.iter().flat_map(|ring| {
+        let next = ring.iter().cycle().skip(1);
+        ring.iter().zip(next)
+    });
+    let lengths = edges.map(|(a, b)| (b[0] - a[0]).hypot(b[1] - a[1]));
+    lengths.fold(f64::INFINITY, f64::min)
+}
+
+/// What a question about the inset of a region handed in, and its answer, are
+/// an instance of.
+fn again_cases(distance: f64, given: &Given, answer: &[u64]) -> Vec<(&'static str, bool)> {
+    let number = answer[0];
+    if number == 21 {
+        let rings = given.lengths.len();
+        let sum = given
+            .lengths
+            .iter()
+            .try_fold(0, |sum: u64, n| sum.checked_add(*n));
+        let fits = sum.is_some_and(|sum| 2 * sum == given.numbers.len() as u64);
+        return vec![
+            ("handed in, no ring", rings == 0),
+            ("handed in, many holes", rings > 9 && fits),
+            ("handed in, lengths that do not add up", !fits && rings > 0),
+            ("handed in, a sum past the largest", sum.is_none()),
+            ("handed in, an odd count", given.numbers.len() % 2 == 1),
+            (
+                "handed in, few",
+                fits && given.lengths.iter().any(|n| *n < 3),
+            ),
+            (
+                "handed in, a wide hole",
+                fits && given.lengths.iter().skip(1).any(|n| *n > 32),
+            ),
+            (
+                "handed in, a wide outer ring",
+                fits && given.lengths.first() > Some(&128),
+            ),
+            (
+                "handed in, not finite",
+                fits && given.numbers.iter().any(|x| !x.is_finite()),
+            ),
+            (
+                "handed in, out of range",
+                fits && given.numbers.iter().any(|x| x.is_finite() && x.abs() > 1e9),
+            ),
+        ];
+    }
+    let edges: u64 = given.lengths.iter().sum();
+    let events: u64 = answer[5..8].iter().sum();
+    let rings = from_first(given);
+    let short = made(given).is_err_and(|refusal| refusal.number == 27);
+    let moved = number == 0 && distance > 0.0;
+    let loading = number == 16 && least_edge(&rings) == 0.0;
+    let holes = given.lengths.len() > 1;
+    vec![
+        ("a hairline, by 0", number == 0 && short && distance == 0.0),
+        ("a hairline inset", moved && short && !holes),
+        ("a hairline inset, with holes", moved && short && holes),
+        (
+            "a hairline left again",
+            moved && short && answer[8] > 0 && {
+                let left = left_of(given, distance).expect("a region");
+                made(&left).is_err_and(|refusal| refusal.number == 27)
+            },
+        ),
+        ("no hairline, inset", moved && !short),
+        ("16 while loading", loading && edges <= 128),
+        (
+            "16 while loading, past the last slot",
+            loading && edges > 128,
+        ),
+        ("15 while loading, handed in", number == 15 && edges > 128),
+        ("15 at a split, handed in", number == 15 && edges <= 128),
+        ("16 after events, handed in", number == 16 && events > 0),
+        ("17 of a hairline", number == 17 && short),
+        ("18, handed in", number == 18 && events == 387),
+        ("4 of a piece, handed in", number == 4),
+        ("5 of a piece, handed in", number == 5),
+        ("6 of a piece, handed in", number == 6),
+        ("19, handed in", number == 19),
+        ("13, handed in", number == 13),
+        ("14, handed in", number == 14),
+        ("joins, handed in", moved && answer[7] > 0),
+        ("divisions, handed in", moved && answer[6] > 0),
+        ("collapses, handed in", moved && answer[5] > 0),
+    ]
+}
+
 /// E11: a square of side 10 with a hole.
 #[test]
 fn e11_regions() {
@@ -775,20 +888,29 @@ fn a_point_on_a_hole_told_outside() {
 fn the_chosen_jobs_are_all_there() {
     let blocks = include_str!("../chosen.jobs").split("\n\n").skip(1);
     let blocks: Vec<(&str, &str)> = blocks.filter_map(|block| block.split_once('\n')).collect();
-    assert_eq!(blocks.len(), 28);
+    assert_eq!(blocks.len(), 35);
     for (words, jobs) in blocks {
         assert!(words.starts_with("# ") && !jobs.contains('#'), "{words}");
         let jobs: BTreeSet<&str> = jobs.lines().collect();
         assert!(jobs.len() >= 4, "{words}");
-        let chosen = |job: &&str| stored::chosen().any(|line| line == job.as_bytes());
+        let chosen = |job: &&str| match job.strip_prefix(stored::GIVEN) {
+            Some(given) => stored::chosen_given().any(|line| line == given.as_bytes()),
+            None => stored::chosen().any(|line| line == job.as_bytes()),
+        };
         assert!(jobs.iter().all(chosen), "{words}");
+        // A job has a hairline in the blocks about 27 alone.
+        let of_27 = words.starts_with("# An edge below") || words.starts_with("# 27");
+        let refused = |job: &&&str| answer_line(job.as_bytes()).line() == "no,27";
+        assert!(of_27 || jobs.iter().filter(refused).count() == 0, "{words}");
     }
+    let given = |line: &[u8]| answer_line(line).line() == "no,27";
+    assert!(stored::chosen_given().all(given));
 }
 
 #[test]
 fn the_stored_jobs_reach_every_number() {
     let answers = stored::answers();
-    for number in (1..=19).chain([22]) {
+    for number in (1..=19).chain([22, 27]) {
         let answer = format!("no,{number}");
         let count = answers.lines().filter(|line| **line == answer).count();
         assert!(count >= 12, "{number}: {count}");

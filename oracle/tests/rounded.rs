@@ -4,7 +4,7 @@ mod rings;
 
 use oracle::answer::answer_line;
 use oracle::job::Job;
-use oracle::outlines::{new_outline, numbers_of, Outline, Question, Shape};
+use oracle::outlines::{handed_outline, Outline, Question, Shape};
 use oracle::{stored, turns};
 use rings::{as_it_should, the_same_in_either_order};
 
@@ -27,12 +27,8 @@ fn refused(first: usize, second: usize) -> String {
 
 /// Of the outline as it is stored.
 fn place(ring: Ring, point: [f64; 2]) -> u64 {
-    let outline = new_outline(ring.as_flattened()).expect("an outline");
-    let shape = Shape {
-        count: ring.len() as u64,
-        numbers: numbers_of(&outline),
-    };
-    Question::Contains(shape, point).answer()[2]
+    let outline = handed_outline(ring.as_flattened()).expect("an outline");
+    Question::Contains(Shape::new(&outline), point).answer()[2]
 }
 
 #[test]

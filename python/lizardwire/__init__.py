@@ -34,4 +34,4 @@ __all__ = [
     "Answer", "Cage", "Events", "Job", "LibraryMissing", "Meeting", "Nearest", "NearestPoints", "Outline", "Place", "Refused",
     "Region", "Stream", "answer_line", "hypot", "inset", "outset", "read_jobs", "version", "write_jobs",
 ]
-__version__ = "0.3.0"
+__version__ = "0.4.0"

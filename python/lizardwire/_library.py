@@ -3,7 +3,7 @@
 It is looked for in this order:
 
 1. the file that the environment variable LIZARDWIRE_LIBRARY names;
-2. ``liblizardwire.so``, then ``liblizardwire.so.2``, in this package's folder, beside this file;
+2. ``liblizardwire.so``, then ``liblizardwire.so.3``, in this package's folder, beside this file;
 3. the same in ``target/shared`` of the repository that this file stands in.
 """
 import ctypes
@@ -16,9 +16,9 @@ from typing import Any, Dict, Iterable, List, Optional, Sequence, Tuple
 VARIABLE = "LIZARDWIRE_LIBRARY"
 NAME = "liblizardwire.so"
 # The number in the name that the library was built with: within one, functions are added and none is changed.
-INTERFACE = 2
+INTERFACE = 3
 # LW_VERSION of the header that is declared here: a library of this version or a later one has all of it, as it is said there.
-VERSION = 3
+VERSION = 4
 
 VERTICES, HOLES, HOLE_VERTICES = 128, 8, 32
 OUTLINE_NUMBERS = 2 * VERTICES

@@ -19,6 +19,8 @@ ONE_CELL = 420
 PAD = 9
 PHONE_SCREEN, PHONE_TEXT = 360, 12.0
 WIDE_SCREEN, WIDE_TEXT = 700, 15.0
+# How large the ring around a place is.
+AROUND = 10
 
 # Widths of the characters from space to tilde, in hundredths of the text's size: those of a wide typeface.
 WIDTHS = (32, 40, 46, 84, 64, 95, 78, 27, 39, 39, 50, 84, 32, 36, 32, 34, 64, 64, 64, 64, 64, 64, 64, 64, 64, 64, 34, 34, 84,
@@ -86,6 +88,11 @@ class Item(NamedTuple):
         """Two edges that cross or touch, of a 9, an 11 or a 12, where they are known and there."""
         pair = self.answer.refused.edges if self.answer.refused else None
         return pair if pair and all(ring < len(self.rings) and self.rings[ring] for ring, _ in pair) else None
+
+    def spot(self) -> Optional[RingEdge]:
+        """The edge of a 7 or a 27, whose ends are one point or a hair apart, where it is known and there."""
+        edge = self.answer.refused.edge if self.answer.refused else None
+        return edge if edge and edge.ring < len(self.rings) and self.rings[edge.ring] else None
 
     def failing_holes(self) -> List[int]:
         """The holes of an 11 or a 12, where they are known."""
@@ -174,6 +181,11 @@ def placing(rings: Sequence[Ring], left: float, top: float, wide: float, high: f
     middle = (min(east) + max(east)) / 2, (min(north) + max(north)) / 2
     turn = -scale if up else scale
     return lambda p: (left + wide / 2 + (p[0] - middle[0]) * scale, top + high / 2 + (p[1] - middle[1]) * turn)
+
+
+def span(rings: Sequence[Ring]) -> float:
+    """How wide or high the rings are, whichever is more."""
+    return max(max(p[k] for ring in rings for p in ring) - min(p[k] for ring in rings for p in ring) for k in (0, 1))
 
 
 def within(ring: Ring, far: float) -> Ring:
@@ -303,11 +315,15 @@ def vertices(page: Page, rings: List[Ring]) -> None:
 
 
 def marks(page: Page, item: Item, place: Placing, left: float, top: float) -> None:
-    """Two edges that cross or touch, with their numbers; where there are none, the holes of an 11 or a 12."""
-    pair = item.pair()
+    """Two edges that cross or touch, or one that is too short to see, with their numbers; where there are none, the holes of an 11 or
+    a 12."""
+    pair, spot = item.pair(), item.spot()
     marked = [item.rings[hole + 1] for hole in item.failing_holes() if hole + 1 < len(item.rings)]
+    box = left, top, left + page.cell, top + page.high
     if pair:
-        crossing(page, item.rings, pair, pair_words(pair), place, (left, top, left + page.cell, top + page.high))
+        crossing(page, item.rings, pair, pair_words(pair), place, box)
+    elif spot:
+        too_near(page, item.rings, spot, clean(item.words()), place, box)
     elif marked:
         page.shapes.append(f'<path class="mark" d="{path(marked, place)}"/>')
 
@@ -317,9 +333,7 @@ def crossing(page: Page, given: Sequence[Ring], pair: Pair, words: str, place: P
     rings = [[place(p) for p in ring] for ring in given]
     edges = [ends(rings[ring], edge) for ring, edge in pair]
     spot = meeting(*edges[0], *edges[1])
-    page.shapes += [f"<g><title>{escape(words)}</title>",
-                    *('<path class="mark" d="M{:.2f} {:.2f}L{:.2f} {:.2f}"/>'.format(*a, *b) for a, b in edges),
-                    '<circle class="spot" cx="{:.2f}" cy="{:.2f}" r="10"/></g>'.format(*spot)]
+    ringed(page, edges, spot, words)
     walls = [ends(r, k) for r in rings for k in range(len(r))]
     for kind, size in page.sizes():
         taken: List[Tuple[Point, str]] = []
@@ -327,6 +341,21 @@ def crossing(page: Page, given: Sequence[Ring], pair: Pair, words: str, place: P
             at = beside(edge, other, number, size, walls, spot, taken, box)
             taken.append((at, number))
             page.say(kind, at[0], at[1] + 0.36 * size, number, "edge")
+
+
+def ringed(page: Page, edges: Sequence[Segment], spot: Point, words: str) -> None:
+    """Edges drawn thick, with a ring around a place and words where it is pointed at. One that is too short to see is a dot."""
+    page.shapes += [f"<g><title>{escape(words)}</title>",
+                    *('<path class="mark" d="M{:.2f} {:.2f}L{:.2f} {:.2f}"/>'.format(*a, *b) for a, b in edges),
+                    '<circle class="spot" cx="{:.2f}" cy="{:.2f}" r="{}"/></g>'.format(*spot, AROUND)]
+
+
+def too_near(page: Page, given: Sequence[Ring], edge: RingEdge, words: str, place: Placing, box: Box) -> None:
+    """An edge whose ends are one point or a hair apart: a dot with a ring around it, and its number beside it."""
+    rings = [[place(p) for p in ring] for ring in given]
+    segment = ends(rings[edge.ring], edge.edge)
+    ringed(page, [segment], segment[0], words)
+    aside(page, rings, segment, str(edge.edge), box, AROUND)
 
 
 def legend(page: Page, items: Sequence[Item], top: float) -> float:
@@ -342,6 +371,9 @@ def legend(page: Page, items: Sequence[Item], top: float) -> float:
     if refused & {9, 11, 12}:
         rows.append(('<path class="mark" d="M{0} {1}l40 20m-40 0l40 -20"/>',
                      "edges that cross" if not refused & {11, 12} else "edges that meet" if found else "where it fails"))
+    if any(item.spot() for item in items):
+        rows.append(('<g transform="translate({0} {1})"><path class="mark" d="M20 10h0"/><circle class="spot" cx="20" cy="10" r="10"/></g>',
+                     "vertices too near"))
     return meanings(page, rows, top)
 
 
@@ -443,9 +475,8 @@ def _meant(page: Page, names: Tuple[str, str], meet: bool) -> List[Tuple[str, st
 
 def close_up(page: Page, layers: Sequence[Tuple[str, Ring]], gap: Segment, place: Placing, boxes: Sequence[Box], up: bool) -> Placing:
     """What is around a gap, framed in the first box and drawn in the second; how points are placed there."""
-    span = max(max(p[k] for _, ring in layers for p in ring) - min(p[k] for _, ring in layers for p in ring) for k in (0, 1))
     east, north = (gap[0][0] + gap[1][0]) / 2, (gap[0][1] + gap[1][1]) / 2
-    high = max(1.5 * math.dist(*gap), CLOSEST * span)
+    high = max(1.5 * math.dist(*gap), CLOSEST * span([ring for _, ring in layers]))
     wide = high * (page.cell - 2 * PAD) / (page.high - 2 * PAD)
     near = placing([[(east - wide, north - high), (east + wide, north + high)]], *boxes[1][:2], page.cell, page.high, up)
     (x, y), (right, _), (_, bottom) = place((east, north)), place((east + wide, north)), place((east, north + high))
@@ -463,15 +494,21 @@ def joined(page: Page, rings: Sequence[Ring], gap: Segment, words: str, place: P
     a, b = map(place, gap)
     page.shapes.append('<path class="gap" d="M{:.2f} {:.2f}L{:.2f} {:.2f}"/>'.format(*a, *b))
     page.shapes += ['<circle class="end" cx="{:.2f}" cy="{:.2f}" r="4"/>'.format(*p) for p in (a, b)]
-    walls = [(place(p), place(q)) for ring in rings for p, q in zip(ring, ring[1:] + ring[:1])]
-    length = math.dist(a, b)
+    aside(page, [[place(p) for p in ring] for ring in rings], (a, b), words, box)
+
+
+def aside(page: Page, rings: Sequence[Ring], gap: Segment, words: str, box: Box, off: float = 0.0) -> None:
+    """Words beside a short segment, farther off by so much, inside the box, on the side with more room."""
+    (a, b), walls = gap, [ends(ring, k) for ring in rings for k in range(len(ring))]
+    length, middle = math.dist(a, b), ((a[0] + b[0]) / 2, (a[1] + b[1]) / 2)
     across = ((b[1] - a[1]) / length, (a[0] - b[0]) / length) if length else (0.0, 1.0)
     for kind, size in page.sizes():
         half = width(words, size, True) / 2
-        aside = abs(across[0]) * half + abs(across[1]) * size / 2 + 0.5 * size
-        sides = [((a[0] + b[0]) / 2 + s * across[0], (a[1] + b[1]) / 2 + s * across[1]) for s in (aside, -aside)]
-        x, y = max(sides, key=lambda p: min(away(p, *wall) for wall in walls))
-        x, y = min(max(x, box[0] + half), box[2] - half), min(max(y, box[1] + size / 2), box[3] - size / 2)
+        far = abs(across[0]) * half + abs(across[1]) * size / 2 + 0.5 * size + off
+        sides = [(middle[0] + s * across[0], middle[1] + s * across[1]) for s in (far, -far)]
+        sides = [(min(max(x, box[0] + half), box[2] - half), min(max(y, box[1] + size / 2), box[3] - size / 2)) for x, y in sides]
+        # What the box pushes back onto the segment has no room.
+        x, y = max(sides, key=lambda p: (math.dist(p, middle) > 0.8 * far, min(away(p, *wall) for wall in walls)))
         page.say(kind, x, y + 0.36 * size, words, "edge")
 
 
@@ -483,6 +520,7 @@ IN_PLACE = """
   .refused {{ fill: #ececec; stroke: #66717e; stroke-dasharray: 6 4; }}
   .cage {{ fill: none; stroke: #c2410c; stroke-width: 2.2px; }}
   .mark {{ fill: none; stroke: #111827; stroke-width: 4px; stroke-linecap: round; }}
+  .spot {{ fill: none; stroke: #111827; stroke-width: 1.5px; }}
 """
 
 
@@ -502,11 +540,8 @@ def in_place(items: Sequence[Item]) -> str:
         out.append(f'<path class="{kind}" d="{_exact(rings)}"><title>{escape(name)}</title></path>')
         if cage:
             out.append(f'<path class="cage" d="{_exact(cage)}"><title>{escape(name)} cage</title></path>')
-        pair = item.pair()
-        if pair and len(rings) == len(item.rings):
-            out.append(f"<g><title>{pair_words(pair)}</title>")
-            out += [f'<path class="mark" d="{_exact([list(ends(rings[ring], edge))])[:-1]}"/>' for ring, edge in pair]
-            out.append("</g>")
+        if len(rings) == len(item.rings):
+            out += _marked(item, rings)
         out.append("</g>")
     left, top = min(east, default=0.0), min(north, default=0.0)
     wide, high = max(east, default=1.0) - left, max(north, default=1.0) - top
@@ -514,6 +549,22 @@ def in_place(items: Sequence[Item]) -> str:
     box = f"{left - around!r} {top - around!r} {wide + 2 * around!r} {high + 2 * around!r}"
     return "\n".join([f'<svg xmlns="http://www.w3.org/2000/svg" viewBox="{box}" width="100%">',
                       f"<title>{escape(_said(items))}</title>", f"<style>{IN_PLACE.format()}</style>", *out, "</svg>", ""])
+
+
+def _marked(item: Item, rings: Sequence[Ring]) -> List[str]:
+    """Two edges that cross or touch, or one that is too short to see, with a diamond around it."""
+    pair, spot = item.pair(), item.spot()
+    edges: Sequence[RingEdge] = pair or ([spot] if spot else [])
+    if not edges:
+        return []
+    out = [f"<g><title>{pair_words(pair) if pair else escape(clean(item.words()))}</title>"]
+    out += [f'<path class="mark" d="{_exact([list(ends(rings[ring], edge))])[:-1]}"/>' for ring, edge in edges]
+    if spot:
+        east, north = ends(rings[spot.ring], spot.edge)[0]
+        far = 0.03 * span(rings)
+        diamond = [(east - far, north), (east, north - far), (east + far, north), (east, north + far)]
+        out.append(f'<path class="spot" d="{_exact([diamond])}"/>')
+    return out + ["</g>"]
 
 
 def _exact(rings: Iterable[Ring]) -> str:

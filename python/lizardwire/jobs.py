@@ -54,7 +54,7 @@ class Job:
 
     @classmethod
     def of(cls, side: str, distance: float, rings: Union[RingLike, Iterable[RingLike]]) -> "Job":
-        """The job of one ring, or of a list of rings."""
+        """The job of one ring, or of a list of rings. It is asked all that a drawing is, 27 too, also where they are those of a cage."""
         lists = [_numbers(ring) for ring in _rings(rings)]
         return cls(side, distance, [len(n) // 2 for n in lists], [number for n in lists for number in n])
 

@@ -1,6 +1,8 @@
 """Why there is no cage: the refusal, in words."""
 import math
-from typing import Any, Dict, List, NamedTuple, Optional, Sequence, Tuple, Union
+import operator
+from fractions import Fraction
+from typing import Any, Callable, Dict, List, NamedTuple, Optional, Sequence, Tuple, Union
 
 Value = Union[int, float]
 
@@ -23,6 +25,7 @@ CARRIES: Dict[int, Tuple[Tuple[str, str], ...]] = {
     18: (("events", "first"), ("residual", "value")),
     19: (("needed", "first"),),
     20: (("needed", "first"),),
+    27: (("ring", "ring"),),
 }
 
 # The library's answer lines give the number alone; these words need no value.
@@ -49,6 +52,7 @@ PLAIN = {
     20: "the lent memory is too short",
     21: "this is not a shape, or not a stream's state",
     22: "this is not a job line",
+    27: "an edge is shorter than 0.000001",
 }
 
 # What is said with the values, where these alone make the sentence.
@@ -56,6 +60,7 @@ SENTENCES = {
     4: "{ring} has {found} vertices: 3 are needed",
     5: "{ring} has the coordinate {value}: 1e9 is the limit",
     6: "{ring} has more than {room} vertices",
+    7: "{ring} has the same vertex twice in a row",
     8: "{ring} is flat: it encloses nothing",
     10: "there are {holes} holes: 8 is the limit",
     14: "the distance {distance} is below 0",
@@ -65,7 +70,13 @@ SENTENCES = {
     18: "after {events} events {residual} of the distance is still to go",
     19: "{needed} holes would be left: 8 is the limit",
     20: "the lent memory is too short: {needed} are needed",
+    27: "{ring} has an edge shorter than 0.000001",
 }
+
+# An edge below this length is a hairline: 27. A length is the nearest double, and of two as near the even one, which this one is not: so
+# the exact length is at most half way between this one and the one before.
+LEAST = 1e-6
+_HALF_WAY = (Fraction(LEAST) + Fraction(math.nextafter(LEAST, 0.0))) / 2
 
 
 class RingEdge(NamedTuple):
@@ -100,23 +111,41 @@ class Drawn(NamedTuple):
         points = self.as_it_is(ring)
         return points[:-1] if len(points) > 1 and points[0] == points[-1] else points
 
-    def repeat(self, ring: int) -> Optional[Tuple[int, int]]:
-        """The first two neighbours of a ring that are the same point."""
-        points = self.ring(ring)
-        neighbours = [(k, (k + 1) % len(points)) for k in range(len(points))]
-        return next(((k, after) for k, after in neighbours if points[k] == points[after]), None)
+    def ends(self, edge: RingEdge) -> Tuple[int, int]:
+        """The vertices that an edge joins, by their numbers."""
+        return edge.edge, (edge.edge + 1) % len(self.ring(edge.ring))
+
+    def edge(self, number: int, ring: int) -> Optional[RingEdge]:
+        """The first edge of a ring that is refused with 7, its ends being one point, or with 27, being too short."""
+        points = self.ring(ring) if ring < len(self.lengths) else []
+        refuses: Callable[[Any, Any], Any] = _hairline if number == 27 else operator.eq
+        edges = enumerate(zip(points, points[1:] + points[:1]))
+        return next((RingEdge(ring, k) for k, (start, end) in edges if refuses(start, end)), None)
 
     def found(self, number: int) -> Dict[str, Value]:
-        """What a 2 or a 7 carries, where an answer line has the number alone."""
+        """What a 2, a 7 or a 27 carries, where an answer line has the number alone."""
         if number == 2:
             return next(({"index": k} for k, value in enumerate(self.numbers) if not math.isfinite(value)), {})
-        return next(({"ring": ring} for ring in range(len(self.lengths)) if number == 7 and self.repeat(ring)), {})
+        rings = range(len(self.lengths) if number in (7, 27) else 0)
+        return next(({"ring": ring} for ring in rings if self.edge(number, ring)), {})
+
+
+def _hairline(start: Tuple[float, float], end: Tuple[float, float]) -> bool:
+    """Is the edge too short, its ends being two points? The library's length, the nearest double, without the library."""
+    east, north = end[0] - start[0], end[1] - start[1]
+    near = abs(east) < LEAST and abs(north) < LEAST and (east, north) != (0, 0)
+    return near and Fraction(east) ** 2 + Fraction(north) ** 2 <= _HALF_WAY ** 2
 
 
 def short(number: float) -> str:
     """A number as a person writes it: 2 and not 2.0, 1e12 and not 1e+12, 0 without a sign."""
     digits, _, exponent = f"{number + 0.0:.12g}".partition("e")
     return f"{digits}e{int(exponent)}" if exponent else digits
+
+
+def _tiny(length: float) -> str:
+    """The length of a hairline in three digits, which never read 1e-6."""
+    return short(min(float(f"{length:.2e}"), 9.99e-7))
 
 
 def exact(number: float) -> str:
@@ -145,10 +174,14 @@ def _number_name(index: int, lengths: Sequence[int]) -> str:
     return f"the {axis} of vertex {vertex}"
 
 
-def _repeated(ring: int, drawn: Optional[Drawn]) -> str:
-    """The words of a 7: the first two neighbours of the ring that are the same point."""
-    name, found = _ring_name(ring), drawn.repeat(ring) if drawn and ring < len(drawn.lengths) else None
-    return f"vertices {found[0]} and {found[1]} of {name} are the same point" if found else f"{name} has the same vertex twice in a row"
+def _too_near(number: int, drawn: Drawn, edge: RingEdge) -> str:
+    """The words of a 7 or a 27: an edge of the drawing whose ends are one point, or a hair apart."""
+    points, (first, second) = drawn.ring(edge.ring), drawn.ends(edge)
+    words = f"vertices {first} and {second} of {_ring_name(edge.ring)}"
+    if number == 7:
+        return f"{words} are the same point"
+    at, length = ", ".join(map(short, points[first])), _tiny(math.dist(points[first], points[second]))
+    return f"{words}, at ({at}), are {length} apart: edge {first} is shorter than 0.000001"
 
 
 def _hole_outside(hole: int, known: Known) -> str:
@@ -193,13 +226,14 @@ def _no_shape(drawn: Drawn) -> str:
 class Refused(ValueError):
     """There is no such outline, region or cage; ``str`` says why in plain words.
 
-    ``number`` is the number of the question that was answered with no, 1 to 22.
+    ``number`` is the number of the question that was answered with no, 1 to 22 and 27.
     ``values`` has what goes with it by name: ``{"ring": 0, "first": 3, "second": 7}``
     of two edges that cross. ``words`` is the reason without the number; they name
     vertices and edges where the refused drawing is at hand (``drawn``, and what else is
     ``known``). ``edges`` has two edges that cross or touch, each with its ring: those of
     a 9; of an 11 or a 12 of a drawing at hand those of its two rings, the lower ring
-    first; None where there are none.
+    first; None where there are none. ``edge`` has the first edge of the ring of a 7 or a
+    27 whose ends are one point or a hair apart, of a drawing at hand; otherwise None.
     ``of_result`` says whether the ring of a 4, 5 or 6 is one of the result, None where
     that is not known. ``collapses``, ``divides`` and ``joins`` count what the offset had
     done before it stopped. Rings, holes, vertices and edges count from 0; edge k runs
@@ -213,12 +247,14 @@ class Refused(ValueError):
         self.of_result = of_result
         self.collapses, self.divides, self.joins = events
         self.edges: Optional[Pair] = known if isinstance(known, tuple) else self._crossed()
-        self.words = self._words(drawn, known)
+        told = self.values or (drawn.found(number) if drawn else {})
+        self.edge: Optional[RingEdge] = drawn.edge(number, int(told["ring"])) if drawn and told and number in (7, 27) else None
+        self.words = self._words(told, drawn, known)
         super().__init__(f"{self.words} (refusal {number})")
 
     def of_drawing(self, numbers: Sequence[float], lengths: Sequence[int]) -> "Refused":
-        """The same refusal with words that name the vertices of this drawing, where a 2 or a 7 is about one."""
-        if self.number not in (2, 7):
+        """The same refusal with words that name the vertices of this drawing, where a 2, a 7 or a 27 is about some."""
+        if self.number not in (2, 7, 27):
             return self
         return Refused(self.number, self.values, of_result=self.of_result, drawn=Drawn(numbers, lengths),
                        events=(self.collapses, self.divides, self.joins))
@@ -233,9 +269,9 @@ class Refused(ValueError):
         ring, first, second = (int(self.values[name]) for name in ("ring", "first", "second"))
         return RingEdge(ring, first), RingEdge(ring, second)
 
-    def _words(self, drawn: Optional[Drawn], known: Known) -> str:
+    def _words(self, v: Dict[str, Value], drawn: Optional[Drawn], known: Known) -> str:
         """The reason in words, with its values where they are known."""
-        number, v = self.number, self.values or (drawn.found(self.number) if drawn else {})
+        number = self.number
         plain = PLAIN.get(number, "refused")
         if number == 21 and drawn:
             return f"this is not a shape: {_no_shape(drawn)}"
@@ -245,8 +281,8 @@ class Refused(ValueError):
             return f"the {('east', 'north')[int(v['index']) % 2]} of the point is not a finite number"
         if number == 2:
             return (_number_name(int(v["index"]), drawn.lengths) if drawn else f"number {v['index']}") + " is not a finite number"
-        if number == 7:
-            return _repeated(int(v["ring"]), drawn)
+        if drawn and self.edge:
+            return _too_near(number, drawn, self.edge)
         if number == 9:
             return ("" if v["ring"] == 0 else f"in {_ring_name(int(v['ring']))}, ") + f"edge {v['first']} crosses edge {v['second']}"
         if number == 11:

@@ -163,8 +163,10 @@ def hypot(x: float, y: float) -> float:
 class Cage(Sequence[Ring]):
     """The rings of an inset or outset, the outer one first. It can be read like a list of rings.
 
-    It can be offset again, as it is: nothing of it is asked but 21. Two are equal where their
-    rings are; ``events``, which tell how it was found, are not compared.
+    It can be offset again, as it is: nothing of it is asked but 21, so that an edge shorter than
+    0.000001, which a drawing is refused for (27), does no harm. Its rings as lists are a drawing
+    like any other: ``Outline(cage.outer)`` asks 27, ``cage.outline`` does not. Two are equal where
+    their rings are; ``events``, which tell how it was found, are not compared.
     """
 
     def __init__(self, rings: Iterable[RingLike], events: Events) -> None:
@@ -244,7 +246,8 @@ class Outline:
     nearly they lie on one line.
 
     The vertices may come in either direction, with the first one repeated at the end
-    or not; they are kept counter-clockwise. Raises :class:`Refused` with 2 or 4 to 9.
+    or not; they are kept counter-clockwise. Raises :class:`Refused` with 2 or 4 to 9,
+    or with 27: an edge is shorter than 0.000001.
     """
 
     def __init__(self, ring: RingLike) -> None:
@@ -259,7 +262,7 @@ class Outline:
 
     @classmethod
     def stored(cls, numbers: Iterable[float]) -> "Outline":
-        """An outline as it is, by its :attr:`numbers`: 21 is asked, and nothing else.
+        """An outline as it is, by its :attr:`numbers`: 21 is asked, and nothing else, 27 neither.
 
         It runs counter-clockwise. That is not asked: one that runs clockwise can be refused an offset that it gets as
         ``Outline(..)``, which turns it round.
@@ -419,10 +422,14 @@ class Region:
     """An outline with up to 8 holes of up to 32 vertices each.
 
     ``rings`` is the outer ring and then the holes. The holes lie inside it and apart
-    from each other. Raises :class:`Refused` with 2 to 12.
+    from each other. Raises :class:`Refused` with 2 to 12, or with 27: an edge is shorter
+    than 0.000001. A :class:`Cage` is taken as it is, as its :attr:`Cage.region`.
     """
 
     def __init__(self, rings: Union[RingLike, Iterable[RingLike]]) -> None:
+        if isinstance(rings, Cage):
+            self._store(rings._numbers, rings._counts)
+            return
         lists = [_numbers(ring) for ring in _rings(rings)]
         self._make("lw_region", [number for numbers in lists for number in numbers], [len(numbers) // 2 for numbers in lists])
 
@@ -456,15 +463,18 @@ class Region:
 
     @classmethod
     def stored(cls, numbers: Iterable[float], lengths: Iterable[int]) -> "Region":
-        """A region as it is, by its :attr:`numbers` and :attr:`lengths`: 21 is asked, and nothing else.
+        """A region as it is, by its :attr:`numbers` and :attr:`lengths`: 21 is asked, and nothing else, 27 neither.
 
         Each ring runs counter-clockwise, holes too. That is not asked: of a hole that runs clockwise, as other programs
         write it, an inset can be granted without it. ``Region(..)`` and :meth:`from_numbers` turn such rings round.
         """
-        region, given = cls.__new__(cls), Drawn(_floats(numbers), _lengths(lengths))
-        answer = call("lw_stored_region", *numbers_in(given.numbers), *wholes_in(given.lengths))
-        region._hold(given.numbers, _granted(answer, drawn=given).counts[:answer.rings])
+        region = cls.__new__(cls)
+        region._store(_floats(numbers), _lengths(lengths))
         return region
+
+    def _store(self, numbers: Sequence[float], lengths: Sequence[int]) -> None:
+        answer = call("lw_stored_region", *numbers_in(numbers), *wholes_in(lengths))
+        self._hold(numbers, _granted(answer, drawn=Drawn(numbers, lengths)).counts[:answer.rings])
 
     def _make(self, name: str, numbers: List[float], lengths: List[int]) -> None:
         out = lent(_library.REGION_NUMBERS)
@@ -593,19 +603,24 @@ def _known(answer: Any, given: Drawn) -> Known:
 
 # ---- cages
 
-def inset(rings: Union[RingLike, Iterable[RingLike]], distance: float) -> Cage:
+def inset(rings: Union[RingLike, Iterable[RingLike], Outline, Region], distance: float) -> Cage:
     """The cage inside.
 
-    ``rings`` is one ring of points, or a list of rings: the outer one, then the holes.
+    ``rings`` is one ring of points, or a list of rings: the outer one, then the holes. They are asked all that a drawing is; a
+    :class:`Cage`, an :class:`Outline` or a :class:`Region` is taken as it is.
     Raises :class:`Refused`, whose words say why there is none.
     How far its vertices lie from the rings at least, :meth:`Outline.inset` and :meth:`Region.inset` say.
     """
+    if isinstance(rings, (Cage, Outline, Region)):
+        return rings.inset(distance)
     listed = _rings(rings)
     return Outline(listed[0]).inset(distance) if len(listed) == 1 else Region(listed).inset(distance)
 
 
-def outset(rings: Union[RingLike, Iterable[RingLike]], distance: float) -> Cage:
-    """The cage outside. ``rings`` is one ring, without holes."""
+def outset(rings: Union[RingLike, Iterable[RingLike], Outline], distance: float) -> Cage:
+    """The cage outside. ``rings`` is one ring, without holes; a :class:`Cage` or an :class:`Outline` is taken as it is."""
+    if isinstance(rings, (Cage, Outline)):
+        return rings.outset(distance)
     listed = _rings(rings)
     if not listed:
         raise Refused(3)

@@ -131,6 +131,11 @@ def edges(ring):
     return list(zip(ring, ring[1:] + ring[:1]))
 
 
+def hairline(ring):
+    """Is an edge too short for a drawing?"""
+    return any(hypot(b[0] - a[0], b[1] - a[1]) < 1e-6 for a, b in edges(ring))
+
+
 def on_ring(point, ring):
     """Whether a finite point lies on an edge of a ring."""
     return any(on_segment(point, a, b) for a, b in edges(ring))

@@ -5,6 +5,8 @@ import sys
 import tempfile
 import unittest
 
+from lizardwire import Refused
+
 HERE = os.path.dirname(os.path.abspath(__file__))
 PYTHON = os.path.dirname(HERE)
 TOP = os.path.dirname(PYTHON)
@@ -17,6 +19,8 @@ HOOK = [(2, 1), (-2, 1), (-2, 3), (6, 3)]
 COLLAR = [(-3, 0), (3, 0), (3, -2), (-3, -2)]
 SLEEVE = [(-5, 10), (-1, 6), (0, 0.2), (1, 6), (5, 10)]
 PANE = [[(0, 0), (10, 0), (10, 10), (0, 10)], [(4, 4), (6, 4), (6, 6), (4, 6)]]
+# A corner is cut off. Inset by that distance it has five vertices, two of them closer together than a drawing may have them.
+CUT, NEARLY = [(0, 0), (4, 0), (4, 4), (1, 4), (0, 3)], 1.7071065
 
 JOB = ("inset,3ff0000000000000,1,4,0000000000000000,0000000000000000,4010000000000000,0000000000000000,"
        "4010000000000000,4010000000000000,0000000000000000,4010000000000000")
@@ -29,11 +33,27 @@ def comb(count):
     return [(float(k), 1.0 + k % 2) for k in range(count - 2)] + [(float(count), 9.0), (0.0, 9.0)]
 
 
+def flat(*rings):
+    """The numbers of rings."""
+    return [number for ring in rings for point in ring for number in point]
+
+
 def run(*words, given=b"", **more):
     """``python -m lizardwire`` with these words: status, output, what went to standard error."""
     environment = {**os.environ, "PYTHONPATH": PYTHON, "PYTHONDONTWRITEBYTECODE": "1", **more}
     done = subprocess.run([sys.executable, "-m", "lizardwire", *words], input=given, capture_output=True, env=environment)
     return done.returncode, done.stdout, done.stderr.decode()
+
+
+class Asked(unittest.TestCase):
+    """A test of what is refused."""
+
+    def refused(self, number, call, *arguments):
+        """The refusal with this number."""
+        with self.assertRaises(Refused) as caught:
+            call(*arguments)
+        self.assertEqual(caught.exception.number, number)
+        return caught.exception
 
 
 class Folder(unittest.TestCase):

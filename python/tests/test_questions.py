@@ -8,32 +8,18 @@ import sys
 import unittest
 
 import lizardwire
-from lizardwire import Cage, Events, Job, Meeting, Nearest, NearestPoints, Outline, Place, Refused, Region, hypot, inset, outset
+from lizardwire import Cage, Events, Job, Meeting, Nearest, NearestPoints, Outline, Place, Region, hypot, inset, outset
 from tests import exact, typed
-from tests.support import BOW, COLLAR, HOOK, JOB, PANE, SLEEVE, SQUARE, TOP, Folder, comb
+from tests.support import BOW, COLLAR, CUT, HOOK, JOB, NEARLY, PANE, SLEEVE, SQUARE, TOP, Asked, Folder, comb, flat
 
 INNER = [(1.0, 1.0), (3.0, 1.0), (3.0, 3.0), (1.0, 3.0)]
-# Its inset by 1.7071065 has five vertices, two of them closer together than a drawing may have them.
-CUT, NEARLY = [(0, 0), (4, 0), (4, 4), (1, 4), (0, 3)], 1.7071065
 BAD_COUNTS = ((-1, ValueError), (2 ** 64, ValueError), (-2 ** 64, ValueError), (2 ** 64 + 4, ValueError), (True, TypeError),
               (4.0, TypeError), ("4", TypeError), (None, TypeError))
-
-
-def flat(*rings):
-    return [number for ring in rings for point in ring for number in point]
 
 
 def one_side(first, second):
     """The least distance from a vertex of the second to an edge of the first."""
     return min(first.nearest(vertex).distance for vertex in second.vertices)
-
-
-class Asked(unittest.TestCase):
-    def refused(self, number, call, *arguments):
-        with self.assertRaises(Refused) as caught:
-            call(*arguments)
-        self.assertEqual(caught.exception.number, number)
-        return caught.exception
 
 
 class OfOutlines(Asked):
@@ -175,7 +161,7 @@ class OfOutlines(Asked):
         self.assertGreater(cage.outline.area, cage.inset(0.1).outline.area)
         self.assertEqual(cage.inset(0.1), cage.outline.inset(0.1))
         self.assertEqual(cage.outset(0).rings, cage.rings)
-        # As a drawing it is refused or not; as it is, it is a shape.
+        # As it is, it is a shape.
         self.assertEqual(cage.outline.vertices, cage.outer)
         self.assertEqual(inset(SQUARE, 1).inset(0.5).outset(0.5).outline.area, 4)
         self.assertEqual(self.refused(16, inset(SQUARE, 1).inset, 1).values, {"distance": 1.0})

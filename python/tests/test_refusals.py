@@ -23,7 +23,8 @@ ERRORS = (
     ("crates/error/src/lib.rt", "Negative(f64)", "Negative(usize)"),
     ("crates/error/src/lib.rt", "told(9, ring, first, second, 0.0)", "told(9, ring, second, first, 0.0)"),
     ("docs/REQUIREMENTS.md", "`Refusal::Far`,", "`Refusal::Negative`,"),
-    ("docs/DECISIONS.md", "Numbers 1 to 22", "Numbers 1 to 21"),
+    ("docs/DECISIONS.md", "Numbers 1 to 22 and 27", "Numbers 1 to 22"),
+    ("docs/REQUIREMENTS.md", "the numbers 1 to 22 and 27", "the numbers 1 to 22 and 27 and 28"),
     ("include/lizardwire.h", "a coordinate beyond +-1e9 ", "a coordinate beyond +-1e8 "),
     ("include/lizardwire.h", "first: 387, value: what remained", "first: 387"),
     ("include/lizardwire.h", 'return "the distance is below 0"', 'return "the distance is 0"'),
@@ -45,7 +46,9 @@ ERRORS = (
     ("rust/src/words.rs", '14 => "the distance is below 0"', '14 => "the distance is 0"'),
     ("rust/src/words.rs", '        19 => "more than 8 holes would be left",\n', ""),
     ("rust/src/words.rs", '        20 => "the lent', '        24 => "the lent'),
-    ("tools/places", "question 1 to 22", "question 1 to 21"),
+    ("oracle/src/answer.rs", "Refusal::of(27, &[], &[]).in_ring(", "Refusal::of(27, &[], &[]).told("),
+    ("tools/places", "question 1 to 22 and 27", "question 1 to 27"),
+    ("tools/places", "{*range(1, 22 + 1), 27}", "{*range(1, 23 + 1), 27}"),
 )
 
 
@@ -81,13 +84,21 @@ class Held(Folder):
 
     def test_a_new_refusal(self):
         """Every place is named that lacks it; README and header can be written."""
-        row = "| 23 | `Columns` | `columns` columns; `wide: f64` how wide | too few columns | too few | first | asked beside it |\n"
+        row = "| 40 | `Columns` | `columns` columns; `wide: f64` how wide | too few columns | too few | first | asked beside it |\n"
         self.put(TABLE, self.get(TABLE) + row)
         places, said = self.told()
         self.assertEqual(places, set(PLACES), said)
         places, said = self.told("--write")
         self.assertEqual(places, set(PLACES) - {"README.md", "include/lizardwire.h"}, said)
-        self.assertIn("| 23 | too few columns | columns, how wide |\n", self.get("README.md"))
+        self.assertIn("docs/DECISIONS.md: no 'Numbers 1 to 22, 27 and 40'", said)
+        self.assertIn("| 40 | too few columns | columns, how wide |\n", self.get("README.md"))
         header = self.get("include/lizardwire.h")
-        self.assertIn("    /* too few columns (first: columns, value: how wide) */\n    LW_REFUSED_COLUMNS = 23\n", header)
+        self.assertIn("    /* too few columns (first: columns, value: how wide) */\n    LW_REFUSED_COLUMNS = 40\n", header)
         self.assertIn('    case LW_REFUSED_COLUMNS: return "too few";\n', header)
+
+    def test_rows_stand_by_number(self):
+        lines = self.get(TABLE).splitlines(True)
+        for wrong in (lines[:-2] + lines[:-3:-1], lines + lines[-1:], lines[:-23]):
+            self.put(TABLE, "".join(wrong))
+            done = subprocess.run([sys.executable, os.path.join(TOP, "tools", "refusals"), self.folder], capture_output=True, text=True)
+            self.assertEqual((done.returncode, done.stderr), (1, f"refusals: {TABLE}: the numbers do not go up from row to row\n"))

@@ -181,7 +181,7 @@ class Finding(unittest.TestCase):
     def test_where_it_is_looked_for(self):
         with mock.patch.dict(os.environ, {"LIZARDWIRE_LIBRARY": ""}):
             places = _library.places()
-        self.assertEqual([os.path.basename(place) for place in places], ["liblizardwire.so", "liblizardwire.so.2"] * 2)
+        self.assertEqual([os.path.basename(place) for place in places], ["liblizardwire.so", "liblizardwire.so.3"] * 2)
         self.assertEqual([os.path.dirname(place) for place in places[:2]], [os.path.dirname(lizardwire.__file__)] * 2)
         self.assertTrue(all(os.path.dirname(place).endswith(os.path.join("target", "shared")) for place in places[2:]))
 
@@ -222,9 +222,9 @@ class Finding(unittest.TestCase):
             data = file.read()
         self.assertEqual(_library._interface(library), _library.INTERFACE)
         with tempfile.NamedTemporaryFile(suffix=".so") as other:
-            other.write(data.replace(b"\0liblizardwire.so.2\0", b"\0liblizardwire.so.1\0"))
+            other.write(data.replace(b"\0liblizardwire.so.3\0", b"\0liblizardwire.so.2\0"))
             other.flush()
-            self.assertIn("is liblizardwire.so.1: this package is written for liblizardwire.so.2", self.refused(other.name))
+            self.assertIn("is liblizardwire.so.2: this package is written for liblizardwire.so.3", self.refused(other.name))
 
     def test_an_older_version(self):
         with mock.patch.object(_library, "VERSION", 10 ** 6):

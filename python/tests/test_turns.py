@@ -119,8 +119,12 @@ class Drawn(unittest.TestCase):
         while len(ring) > 1 and ring[0] == ring[-1]:
             ring = ring[:-1]
         _, refusal = made(ring)
-        if refusal is not None and refusal.number in (4, 7, 8):
+        if refusal is not None and refusal.number in (4, 7):
             met["refused before"] += 1
+            return
+        self.assertEqual(refusal is not None and refusal.number == 27, exact.hairline(ring), ring)
+        if refusal is not None and refusal.number in (27, 8):
+            met[f"refused with {refusal.number}"] += 1
             return
         pair = refused_pair(ring)
         if refusal is None:
@@ -218,7 +222,7 @@ class Drawn(unittest.TestCase):
         r, met = random.Random(9), Counter()
         for _ in range(400):
             self.judge(r, met)
-        for what in ("accepted", "refused with 9", "on the boundary", "beside it", "rounding tells otherwise", "cages",
+        for what in ("accepted", "refused with 27", "refused with 9", "on the boundary", "beside it", "rounding tells otherwise", "cages",
                      "cages of more than one ring", "region accepted",
                      "region refused with 11, sharing a point: True", "region refused with 12, sharing a point: True"):
             self.assertGreater(met[what], 20, met)

@@ -37,7 +37,10 @@ def cages(distance: float) -> Optional[Cage]:
     except Refused as refusal:
         number: int = refusal.number
         assert refusal.edges is None or refusal.edges[0].ring <= refusal.edges[1].ring
+        assert refusal.edge is None or refusal.edge.ring + refusal.edge.edge >= 0
         return None if number else outset([SQUARE], distance)
+    assert inset(cage, 0) == inset(cage.outline, 0) == inset(cage.region, 0) == outset(cage, 0) == outset(cage.outline, 0)
+    assert Region(cage) == cage.region
     events: Events = cage.events
     first: List[Tuple[float, float]] = cage[0]
     rest: List[List[Tuple[float, float]]] = cage[1:]

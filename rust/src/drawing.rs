@@ -2,8 +2,11 @@
 
 use crate::refusal::Refusal;
 use crate::shapes::{points_of, Outline};
-use crate::slices::Place;
-use crate::words::{coordinate, drawn};
+use crate::slices::{self, Place, Point};
+use crate::words::{coordinate, drawn, tiny, Short};
+
+/// An edge below this length is a hairline: 27.
+const LEAST: f64 = 1e-6;
 
 /// Rings as they were given: a flat list of numbers, and the vertices of each ring. The two need not fit each other.
 pub(crate) struct Drawing<'a> {
@@ -20,6 +23,7 @@ impl Drawing<'_> {
                 self.coordinate_name(index)
             )),
             Refusal::Repeated { ring } => self.repeated(ring),
+            Refusal::Hairline { ring } => self.hairline(ring),
             Refusal::HoleOutside { hole } => self.hole_outside(hole),
             Refusal::HolesTouch { first, second } => self.holes_touch(first, second),
             Refusal::Shape => Some(format!("this is not a shape: {}", self.no_shape()?)),
@@ -50,13 +54,37 @@ impl Drawing<'_> {
     }
 
     fn repeated(&self, ring: usize) -> Option<String> {
-        let vertices = points_of(opened(self.ring(ring)?));
-        let next = |k: usize| (k + 1) % vertices.len();
-        let k = (0..vertices.len()).find(|&k| vertices[k] == vertices[next(k)])?;
-        let (second, name) = (next(k), drawn(ring));
+        let (k, next, _) = self.edge(ring, |start, end| start == end)?;
+        let name = drawn(ring);
         Some(format!(
-            "vertices {k} and {second} of {name} are the same point"
+            "vertices {k} and {next} of {name} are the same point"
         ))
+    }
+
+    fn hairline(&self, ring: usize) -> Option<String> {
+        let length = |start: Point, end: Point| slices::hypot(end.0 - start.0, end.1 - start.1);
+        let short = |start, end| start != end && length(start, end) < LEAST;
+        let (k, next, (start, end)) = self.edge(ring, short)?;
+        let (name, far) = (drawn(ring), tiny(length(start, end)));
+        let (east, north) = (Short(start.0), Short(start.1));
+        Some(format!(
+            "vertices {k} and {next} of {name}, at ({east}, {north}), are {far} apart: edge {k} is shorter than 0.000001"
+        ))
+    }
+
+    /// The first edge of a ring that something holds of: its number, that of the vertex it ends in, and its ends.
+    fn edge(
+        &self,
+        ring: usize,
+        holds: impl Fn(Point, Point) -> bool,
+    ) -> Option<(usize, usize, (Point, Point))> {
+        let vertices = points_of(opened(self.ring(ring)?));
+        let edge = |k: usize| {
+            let next = (k + 1) % vertices.len();
+            (k, next, (vertices[k], vertices[next]))
+        };
+        let mut edges = (0..vertices.len()).map(edge);
+        edges.find(|&(_, _, (start, end))| holds(start, end))
     }
 
     fn hole_outside(&self, hole: usize) -> Option<String> {

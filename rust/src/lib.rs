@@ -55,7 +55,7 @@ pub use slices::{hypot, version, Events, Meeting, Nearest, NearestPoints, Place,
 pub use words::words;
 
 /// The version of the library's header that this crate is written for; [`version`] says that of the library.
-pub const VERSION: usize = 3;
+pub const VERSION: usize = 4;
 /// The most vertices of an outline, and of the front of an offset.
 pub const VERTICES: usize = 128;
 /// The most holes of a region.

@@ -4,7 +4,9 @@
 ///
 /// Rings, edges, vertices, holes and indices count from 0. Ring 0 is the outer one, ring k is hole k − 1, and edge k runs from
 /// vertex k to the next. `Few`, `Range` and `Room` can also come from an offset's result; `ring` is then its place among the
-/// finished rings.
+/// finished rings. `Hairline` is asked of a ring as it is drawn, its closing edge included, after `Repeated` and before `Flat`. It is
+/// not asked of an [`Outline`](crate::Outline) or a [`Region`](crate::Region) that is at hand: an inset with so short an edge can be inset
+/// again.
 ///
 /// [`Display`](std::fmt::Display) says it in words, those of the Python package: "edge 0 crosses edge 2". It does not know of what
 /// "number 3" or "ring 0" is one: where the drawing is at hand, [`in_drawing`](Self::in_drawing) says "the north of vertex 1", of a
@@ -124,6 +126,11 @@ pub enum Refusal {
     Shape,
     /// 22: an ill-formed job line.
     Job,
+    /// 27: an edge shorter than 0.000001.
+    Hairline {
+        /// The ring.
+        ring: usize,
+    },
     /// A question that this crate does not know, of a newer library.
     Other {
         /// Its number.
@@ -132,7 +139,8 @@ pub enum Refusal {
 }
 
 impl Refusal {
-    /// What a struct of the library says; `Ok` where it is granted. So far the library answers 0 to 22, a newer one may go on.
+    /// What a struct of the library says; `Ok` where it is granted. So far the library asks the questions 1 to 22 and 27, a newer one
+    /// may go on.
     pub(crate) fn told(
         number: usize,
         ring: usize,
@@ -175,11 +183,12 @@ impl Refusal {
             20 => Self::Short { needed: first },
             21 => Self::Shape,
             22 => Self::Job,
+            27 => Self::Hairline { ring },
             number => Self::Other { number },
         })
     }
 
-    /// The question's number, 1 to 22. [`Other`](Self::Other) has one of its own.
+    /// The question's number, 1 to 22 and 27. [`Other`](Self::Other) has one of its own.
     pub fn number(&self) -> usize {
         match self {
             Self::Odd => 1,
@@ -204,6 +213,7 @@ impl Refusal {
             Self::Short { .. } => 20,
             Self::Shape => 21,
             Self::Job => 22,
+            Self::Hairline { .. } => 27,
             Self::Other { number } => *number,
         }
     }

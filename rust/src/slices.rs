@@ -5,7 +5,8 @@
 //! outline, one of [`REGION_NUMBERS`](crate::REGION_NUMBERS) for any region.
 //!
 //! Numbers *as drawn* are checked: [`check`], [`outline`], [`region`], [`region_inset`]. Any other function takes a shape as one of
-//! these, or an inset or outset, wrote it, asks 21 of it, and works on it as it is.
+//! these, or an inset or outset, wrote it, asks 21 of it, and works on it as it is: 27 is not asked of it, so that an inset with an
+//! edge shorter than 0.000001 can be inset again.
 //!
 //! Each ring of such a shape runs counter-clockwise, holes too. That is not asked: of a hole that runs clockwise, as in GeoJSON, an
 //! inset can be granted without it, and the cage then runs over the hole. [`outline`] and [`region`] turn such rings round.

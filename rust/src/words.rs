@@ -32,6 +32,7 @@ pub fn words(number: usize) -> &'static str {
         20 => "the lent memory is too short",
         21 => "this is not a shape, or not a stream's state",
         22 => "this is not a job line",
+        27 => "an edge is shorter than 0.000001",
         _ => "refused",
     }
 }
@@ -44,7 +45,8 @@ impl fmt::Display for Refusal {
 
 impl Refusal {
     /// The words where the rings that were refused are at hand, as they were given: "vertices 2 and 3 of hole 0 are the same point",
-    /// "edge 0 of ring 1 crosses or touches edge 1 of ring 0".
+    /// "edge 0 of ring 1 crosses or touches edge 1 of ring 0", "vertices 2 and 3 of the outline, at (4, 2), are 2e-7 apart: edge 2 is
+    /// shorter than 0.000001".
     ///
     /// ```
     /// use lizardwire::Outline;
@@ -119,6 +121,7 @@ fn told(refusal: &Refusal, met: Met, f: &mut fmt::Formatter<'_>) -> fmt::Result 
             write!(f, "{} has more than {room} vertices", Ring(ring, met))
         }
         R::Repeated { ring } => write!(f, "{} has the same vertex twice in a row", drawn(ring)),
+        R::Hairline { ring } => write!(f, "{} has an edge shorter than 0.000001", drawn(ring)),
         R::Flat { ring } => write!(f, "{} is flat: it encloses nothing", drawn(ring)),
         R::Crossed {
             ring: 0,
@@ -194,7 +197,7 @@ impl fmt::Display for Ring {
 }
 
 /// A number as a person writes it, in 12 digits: 2 and not 2.0, 1e12, 1e-7, and 0 for −0.
-struct Short(f64);
+pub(crate) struct Short(pub f64);
 
 const DIGITS: i32 = 12;
 
@@ -217,6 +220,12 @@ impl fmt::Display for Short {
             _ => write!(f, "{}e{exponent}", without_zeros(digits)),
         }
     }
+}
+
+/// The length of a hairline in three digits, which never read 1e-6.
+pub(crate) fn tiny(length: f64) -> impl fmt::Display {
+    let rounded = format!("{length:.2e}").parse().unwrap_or(length);
+    Short(rounded.min(9.99e-7))
 }
 
 /// Without the zeros at its end that follow a point.

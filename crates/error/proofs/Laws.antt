@@ -3,7 +3,7 @@ use mathlib.Core.Path.{_≡_, refl}
 use mathlib.Core.Bool.{true, false, false≢true}
 use Rattle.error.specs.declared.Refusal.{Refusal}
 use Rattle.error.specs.declared.Refusal.the-variants.{Granted, Odd, NotFinite, Lengths, Few, Range, Room, Repeated, Flat, Crossed, ManyHoles, HoleOutside, HolesTouch, Far, Negative, Slots, Collapses, Splits, Unfinished, ManyPieces}
-use Rattle.error.specs.declared.Refusal.the-variants.{Short, Shape, Job}
+use Rattle.error.specs.declared.Refusal.the-variants.{Short, Shape, Job, Hairline}
 use Rattle.error.specs.Refusals.{values, number, granted}
 
 -- only `Granted` has the number 0
@@ -32,3 +32,4 @@ granted-is (ManyPieces needed) h = absurd (false≢true h)
 granted-is (Short needed) h = absurd (false≢true h)
 granted-is Shape h = absurd (false≢true h)
 granted-is Job h = absurd (false≢true h)
+granted-is (Hairline ring) h = absurd (false≢true h)

@@ -8,9 +8,9 @@ use lib.Ieee.{Float}
 use Rattle.error.specs.declared.Refusal.{Refusal}
 use Rattle.error.specs.declared.Refusal.the-variants.{Granted, Odd, NotFinite, Lengths, Few, Range, Room, Repeated, Flat, Crossed}
 use Rattle.error.specs.declared.Refusal.the-variants.{ManyHoles, HoleOutside, HolesTouch, Far, Negative, Slots, Collapses, Splits}
-use Rattle.error.specs.declared.Refusal.the-variants.{Unfinished, ManyPieces, Short, Shape, Job}
+use Rattle.error.specs.declared.Refusal.the-variants.{Unfinished, ManyPieces, Short, Shape, Job, Hairline}
 
--- what a refusal stands for: the question's number, the ring's number in 4 to 9, the whole numbers and the float that it carries
+-- what a refusal stands for: the question's number, the ring's number in 4 to 9 and 27, the whole numbers and the float that it carries
 pub record Values : Type 0 where
   pub question : ℕ
   pub ring : List ℕ
@@ -43,6 +43,7 @@ values (ManyPieces needed) = record { question = 19; ring = []; wholes = needed 
 values (Short needed) = record { question = 20; ring = []; wholes = needed ∷ []; floats = [] }
 values Shape = record { question = 21; ring = []; wholes = []; floats = [] }
 values Job = record { question = 22; ring = []; wholes = []; floats = [] }
+values (Hairline ring) = record { question = 27; ring = ring ∷ []; wholes = []; floats = [] }
 
 -- the question's number; 0 where nothing is refused
 unfoldable pub number : Refusal → ℕ

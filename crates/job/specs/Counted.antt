@@ -28,13 +28,13 @@ rings-asked outward lengths ps =
 abbrev pub Idle : RegionOffset → Type 0
 Idle a = NoEvent (a .collapses) (a .divides) (a .joins)
 
--- the answer a to a job of one ring, o being what 4 to 9 make of it
+-- the answer a to a job of one ring, o being what 4 to 9 and 27 make of it
 pub record OutlineJob (outward : Bool) (distance : Float) (o : NewOutline) (a : RegionOffset) : Type 0 where
   pub passed : granted (o .refusal) ≡ true →
       Accounts (o .shape .count) 1 distance (outline-load (o .shape) outward distance) (a .refusal) (a .collapses) (a .divides) (a .joins)
   pub refused : granted (o .refusal) ≡ false → Idle a
 
--- the answer a to a job of more rings, r being what 4 to 12 make of them
+-- the answer a to a job of more rings, r being what 4 to 12 and 27 make of them
 pub record RegionJob (distance : Float) (r : NewRegion) (a : RegionOffset) : Type 0 where
   pub passed : granted (r .refusal) ≡ true →
       Accounts (edges-of (r .shape) (r .shape .holes)) (suc (r .shape .holes)) distance (region-load (r .shape) distance) (a .refusal)

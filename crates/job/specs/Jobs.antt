@@ -1,6 +1,6 @@
 -- A job on numbers: a side, a distance, the ring lengths and the coordinates. With one ring it is an outline's offset, and with more a
--- region's inset. Question 22 of the side is asked first, then 1, 2 and 3, then 4 to 9 ring by ring and 10 to 12, then 13 to 19 by the
--- offset.
+-- region's inset. Question 22 of the side is asked first, then 1, 2 and 3, then 4 to 9 and 27 ring by ring and 10 to 12, then 13 to 19 by
+-- the offset.
 -- What a `let` binds is computed only where it is read, so no offset is computed for a job that is refused before it. Assumes nothing.
 use Prim.Native.Nat.{ℕ, _%_}
 use mathlib.Core.Bool.{Bool, false, cond}
@@ -38,13 +38,13 @@ as-region r =
       joins = r .joins;
     }
 
--- 13 to 19 of an outline that has passed 4 to 9
+-- 13 to 19 of an outline that has passed 4 to 9 and 27
 unfoldable pub job-outline : Bool → Float → NewOutline → RegionOffset
 job-outline outward d o =
     let given = as-region (offset (o .shape) outward d) in
     cond (granted (o .refusal)) given (job-refused (o .refusal))
 
--- 13 to 19 of a region that has passed 4 to 12
+-- 13 to 19 of a region that has passed 4 to 12 and 27
 unfoldable pub job-region : Float → NewRegion → RegionOffset
 job-region d r =
     let given = region-inset (r .shape) d in

@@ -44,7 +44,7 @@ pub(crate) fn as_region(r: Offset) -> RegionOffset
     }
 }
 
-// Questions 13 to 19 of an outline that has passed 4 to 9.
+// Questions 13 to 19 of an outline that has passed 4 to 9 and 27.
 pub(crate) fn job_outline(outward: bool, d: f64, o: NewOutline) -> RegionOffset
     ensures { λ x. ⌜ x ≡ Jobs.job-outline outward d o ⌝ }
 {
@@ -57,7 +57,7 @@ pub(crate) fn job_outline(outward: bool, d: f64, o: NewOutline) -> RegionOffset
     }
 }
 
-// Questions 13 to 19 of a region that has passed 4 to 12.
+// Questions 13 to 19 of a region that has passed 4 to 12 and 27.
 pub(crate) fn job_region(d: f64, r: NewRegion) -> RegionOffset
     ensures { λ x. ⌜ x ≡ Jobs.job-region d r ⌝ }
 {

@@ -37,7 +37,7 @@ unfoldable pub use Rattle.told.specs.Told.{vertices}
 
 -- the number of the functions for C, LW_VERSION of the header: it goes up with every function that is added or changed
 abbrev pub version : ℕ
-version = 3
+version = 4
 
 -- ---- the check of an outline, whose stored ring is written to lent output
 

@@ -37,7 +37,7 @@ pub(crate) fn given(numbers: &[f64]) -> Outline
 pub extern "C" fn lw_version() -> usize
     ensures { λ r. ⌜ r ≡ Exports.version ⌝ }
 {
-    3
+    4
 }
 
 // math::hypot.
@@ -48,7 +48,7 @@ pub extern "C" fn lw_hypot(x: f64, y: f64) -> f64
     math::hypot(x, y)
 }
 
-// Whether these numbers are an outline, and of how many vertices: questions 1, 2 and 4 to 9.
+// Whether these numbers are an outline, and of how many vertices: questions 1, 2, 4 to 7, 27, 8 and 9.
 #[no_mangle]
 pub extern "C" fn lw_check(numbers: &[f64]) -> LwOutline
     ensures { λ r. ⌜ r ≡ Exports.checked (Outlines.outline (now (numbers .entry))) ⌝ }
@@ -58,7 +58,7 @@ pub extern "C" fn lw_check(numbers: &[f64]) -> LwOutline
     told::outline(refusal, made.count)
 }
 
-// The outline of these numbers, written to `out`: questions 1, 2 and 4 to 9, then 20.
+// The outline of these numbers, written to `out`: questions 1, 2, 4 to 7, 27, 8 and 9, then 20.
 #[no_mangle]
 pub extern "C" fn lw_outline(numbers: &[f64], out: &mut [f64]) -> LwOutline
     ensures answered { λ r. ⌜ r ≡ Exports.told-outline (Outlines.outline (now (numbers .entry))) (now (out .entry)) ⌝ }

@@ -20,7 +20,7 @@ use told::LwPlace;
 use told::LwRegion;
 use told::LwRegionOffset;
 
-// The region of these numbers, ring after ring, written to `out`: questions 1 to 12, then 20.
+// The region of these numbers, ring after ring, written to `out`: questions 1 to 12 and 27, then 20.
 #[no_mangle]
 pub extern "C" fn lw_region<'a>(
     numbers: &'a [f64],
@@ -38,7 +38,7 @@ pub extern "C" fn lw_region<'a>(
     told::region(refusal, w.rings, counts)
 }
 
-// The inset of the region of these numbers, written to `out`: questions 1 to 12, then 13 to 19, then 20.
+// The inset of the region of these numbers, written to `out`: questions 1 to 12 and 27, then 13 to 19, then 20.
 #[no_mangle]
 pub extern "C" fn lw_region_inset<'a>(
     numbers: &'a [f64],

@@ -14,17 +14,15 @@ use lib.Ieee.{Float, lt}
 use Rattle.base.proofs.Choices.{by-test}
 use Rattle.base.proofs.Choices.{both}
 use Rattle.error.specs.declared.Refusal.{Refusal}
-use Rattle.error.specs.declared.Refusal.the-variants.{Odd, Few, Repeated, Flat}
+use Rattle.error.specs.declared.Refusal.the-variants.{Odd}
 use Rattle.error.specs.Refusals.{number, values, granted}
 use Rattle.math.specs.Number.{zero-float}
 use Rattle.margins.specs.Far.{over}
 use Rattle.plane.specs.Plane.{same}
 use Rattle.ring.specs.Ring.{vertex-at, stored-at}
 use Rattle.ring.specs.Store.{stored}
-use Rattle.ring_measure.specs.Measures.{signed-area, span}
-use Rattle.ring_cross.specs.Simple.{check-simple}
 use Rattle.ring_check.specs.declared.Checked.{Checked}
-use Rattle.ring_check.specs.Checks.{kept, check-range, repeats, flat, crossed, refused, passed, check-reversed, check-area, check-shape, check-in-range, check-kept, check-ring}
+use Rattle.ring_check.specs.Checks.{kept, check-door}
 use Rattle.ring_check.proofs.Sound.{check-sound}
 use Rattle.outline.specs.declared.Outline.{Outline}
 use Rattle.outline.specs.declared.NewOutline.{NewOutline}
@@ -39,7 +37,7 @@ use Rattle.margin.proofs.DoublesKept.{outline-doubles}
 use Rattle.margin.proofs.Outlines.{offset-margin}
 use Rattle.margin.proofs.Stands.{Left, Stands, drawn-far, drawn-largest}
 
--- ---- what 4 to 9 leave of n vertices
+-- ---- what 4 to 9 and 27 leave of n vertices
 
 kept-left : (ps : List Float) (n : ℕ) → Left ps n (kept ps n)
 unfolding kept
@@ -52,37 +50,16 @@ kept-left ps n =
     less : (n : ℕ) → 1 < n → n ≡ n - 1 + 1
     less n l = omega arith
 
-record Counts (m : ℕ) (c : Checked) : Type 0 where
-  count : granted (c .refusal) ≡ true → c .count ≡ m
-
-refused-counts : (m : ℕ) (r : Refusal) → granted r ≡ false → Counts m (refused r)
-unfolding refused
-refused-counts m r h = record { count = λ q. absurd (false≢true (sym h ∙ q)) }
-
-kept-counts : (room ring : ℕ) (ps : List Float) (m : ℕ) → Counts m (check-kept room ring ps m)
-unfolding check-kept check-in-range check-shape check-area check-reversed passed granted number values
-kept-counts room ring ps m =
-    let r : Refusal = check-range room ring ps m in
-    let back : Bool = lt (signed-area ps m) zero-float in
-    let c : Refusal = crossed ring m back (check-simple ps m back) in
-    both (Counts m) (ltb m 3) (refused-counts m (Few ring m) refl)
-    (by-test (Counts m) (granted r)
-    (λ g. both (Counts m) (repeats ps m) (refused-counts m (Repeated ring) refl)
-    (both (Counts m) (flat (signed-area ps m) (span ps m)) (refused-counts m (Flat ring) refl)
-    (by-test (Counts m) (granted c) (λ h. record { count = λ q. refl }) (λ h. refused-counts m c h))))
-    (λ g. refused-counts m r g))
-
-pub check-left : (room ring : ℕ) (ps : List Float) (n : ℕ) → granted ((check-ring room ring ps n) .refusal) ≡ true → Left ps n ((check-ring room ring ps n) .count)
-unfolding check-ring
-check-left room ring ps n g = subst (Left ps n) (sym (kept-counts room ring ps (kept ps n) .count g)) (kept-left ps n)
+pub check-left : (room ring : ℕ) (ps : List Float) (n : ℕ) → granted ((check-door room ring ps n) .refusal) ≡ true → Left ps n ((check-door room ring ps n) .count)
+check-left room ring ps n g = subst (Left ps n) (sym (check-sound true room ring ps n g .left)) (kept-left ps n)
 
 -- vertices that are stored as they were checked stand for what was drawn
-pub checked-stands : (room ring : ℕ) (ps : List Float) (n : ℕ) (qs : List Float) → granted ((check-ring room ring ps n) .refusal) ≡ true
-    → ((k : ℕ) → k < (check-ring room ring ps n) .count → vertex-at qs k ≡ stored-at ps ((check-ring room ring ps n) .count) ((check-ring room ring ps n) .back) k)
-    → Stands qs ((check-ring room ring ps n) .count) ps n
+pub checked-stands : (room ring : ℕ) (ps : List Float) (n : ℕ) (qs : List Float) → granted ((check-door room ring ps n) .refusal) ≡ true
+    → ((k : ℕ) → k < (check-door room ring ps n) .count → vertex-at qs k ≡ stored-at ps ((check-door room ring ps n) .count) ((check-door room ring ps n) .back) k)
+    → Stands qs ((check-door room ring ps n) .count) ps n
 checked-stands room ring ps n qs g e = record {
-  back = (check-ring room ring ps n) .back;
-  some = check-sound room ring ps n g .three;
+  back = (check-door room ring ps n) .back;
+  some = check-sound true room ring ps n g .three;
   left = check-left room ring ps n g;
   each = e;
 }
@@ -95,11 +72,11 @@ stored-vertices ps m back z k l =
     let out : List Float = replicate 256 zero-float in
     subst (λ (i : ℕ). vertex-at (stored ps m back 0 out) i ≡ stored-at ps m back k) (zero-add k) (stored-new ps m back 0 out (omega (arith, length-replicate 256 zero-float)) k l)
 
-pub outline-stands : (ps : List Float) (n : ℕ) → granted ((check-ring 128 0 ps n) .refusal) ≡ true
-    → Stands ((stored-outline ps ((check-ring 128 0 ps n) .count) ((check-ring 128 0 ps n) .back)) .points) ((check-ring 128 0 ps n) .count) ps n
+pub outline-stands : (ps : List Float) (n : ℕ) → granted ((check-door 128 0 ps n) .refusal) ≡ true
+    → Stands ((stored-outline ps ((check-door 128 0 ps n) .count) ((check-door 128 0 ps n) .back)) .points) ((check-door 128 0 ps n) .count) ps n
 outline-stands ps n g =
-    let c : Checked = check-ring 128 0 ps n in
-    checked-stands 128 0 ps n ((stored-outline ps (c .count) (c .back)) .points) g (stored-vertices ps (c .count) (c .back) (check-sound 128 0 ps n g .fits))
+    let c : Checked = check-door 128 0 ps n in
+    checked-stands 128 0 ps n ((stored-outline ps (c .count) (c .back)) .points) g (stored-vertices ps (c .count) (c .back) (check-sound true 128 0 ps n g .fits))
 
 pub record NewStands (ps : List Float) (n : ℕ) (a : NewOutline) : Type 0 where
   pub stands : granted (a .refusal) ≡ true → Stands (a .shape .points) (a .shape .count) ps n
@@ -108,7 +85,7 @@ pub record NewStands (ps : List Float) (n : ℕ) (a : NewOutline) : Type 0 where
 pub new-stands : (ps : List Float) (n : ℕ) → NewStands ps n (new-outline ps n)
 unfolding new-outline outline-of outline-refused stored-outline
 new-stands ps n =
-    let c : Checked = check-ring 128 0 ps n in
+    let c : Checked = check-door 128 0 ps n in
     by-test (NewStands ps n) (granted (c .refusal))
     (λ g. record { stands = λ q. outline-stands ps n g; doubles = λ q d. outline-doubles ps (c .count) (c .back) d .all })
     (λ g. record { stands = λ q. absurd (false≢true (sym g ∙ q)); doubles = λ q. absurd (false≢true (sym g ∙ q)) })
@@ -124,7 +101,7 @@ new-outline-margin ps n d pd fd g h l =
       far = drawn-far (o .points) (o .count) ps n s (over d) (largest-of o) ((offset o false d) .shape .points) ((offset o false d) .shape .count) pd (offset-margin o d od fd h l);
     }
 
--- an accepted outline is what 4 to 9 make of its numbers
+-- an accepted outline is what 4 to 9 and 27 make of its numbers
 pub record Accepted (ps : List Float) (a : NewOutline) : Type 0 where
   pub is : granted (a .refusal) ≡ true → a ≡ new-outline ps (length ps / 2)
 

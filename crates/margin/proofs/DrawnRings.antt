@@ -4,7 +4,6 @@ use native.Mathlib.Omega.{arith}
 use mathlib.Core.Path.{_≡_, refl, sym, ap, _∙_, subst}
 use mathlib.Core.Bool.{Bool, true, false, false≢true}
 use mathlib.Core.List.{List}
-use mathlib.Mathlib.Data.Bool.Basic.{and-elim-left}
 use borrow.Author.Tests.{ltb-true, ltb-false}
 use lib.Dec.{T, ltb, eqb}
 use lib.ListN.{getD, drop, set, length, length-set, length-replicate}
@@ -22,7 +21,7 @@ use Rattle.base.proofs.Sums.{sums-to}
 use Rattle.margins.specs.Far.{over, magnitude}
 use Rattle.ring.specs.Ring.{vertex-at, stored-at}
 use Rattle.ring_check.specs.declared.Checked.{Checked}
-use Rattle.ring_check.specs.Checks.{check-ring}
+use Rattle.ring_check.specs.Checks.{check-door}
 use Rattle.ring_check.proofs.Sound.{check-sound}
 use Rattle.outline.specs.declared.Outline.{Outline}
 use Rattle.outline.specs.Outlines.{stored-outline, check-finite}
@@ -123,22 +122,22 @@ module _ (lengths : List ℕ) (ps : List Float) where
   abbrev before : ℕ → ℕ
   before k = rounds (total-step lengths) k 0
 
-  record LoadedTo (k : ℕ) (s : RegionLoad) : Type 0 where
-    start : s .start ≡ before (suc k)
-    holes : s .shape .holes ≡ k
-    room : Room (s .shape)
-    outer : Stands (s .shape .outer .points) (s .shape .outer .count) ps (getD lengths 0 0)
-    each : (j : ℕ) → j < k → j < 8 → Hole (s .shape) j (ring-in lengths ps (suc j)) (getD lengths (suc j) 0)
-    doubles : Doubles ps → RegionDoubles (s .shape)
+  pub record LoadedTo (k : ℕ) (s : RegionLoad) : Type 0 where
+    pub start : s .start ≡ before (suc k)
+    pub holes : s .shape .holes ≡ k
+    pub room : Room (s .shape)
+    pub outer : Stands (s .shape .outer .points) (s .shape .outer .count) ps (getD lengths 0 0)
+    pub each : (j : ℕ) → j < k → j < 8 → Hole (s .shape) j (ring-in lengths ps (suc j)) (getD lengths (suc j) 0)
+    pub doubles : Doubles ps → RegionDoubles (s .shape)
 
-  record Loading (k : ℕ) (s : RegionLoad) : Type 0 where
-    loaded : granted (s .refusal) ≡ true → LoadedTo k s
+  pub record Loading (k : ℕ) (s : RegionLoad) : Type 0 where
+    pub loaded : granted (s .refusal) ≡ true → LoadedTo k s
 
-  outer-loading : Loading 0 (outer-loaded ps (getD lengths 0 0) (check-ring 128 0 ps (getD lengths 0 0)))
+  pub outer-loading : Loading 0 (outer-loaded ps (getD lengths 0 0) (check-door 128 0 ps (getD lengths 0 0)))
   unfolding outer-loaded with-outer no-region rounds total-step stored-outline
   outer-loading =
       let n : ℕ = getD lengths 0 0 in
-      let c : Checked = check-ring 128 0 ps n in
+      let c : Checked = check-door 128 0 ps n in
       by-test (Loading 0) (granted (c .refusal))
       (λ g. record {
         loaded = λ q. record {
@@ -163,10 +162,10 @@ module _ (lengths : List ℕ) (ps : List Float) where
     abbrev n : ℕ
     n = getD lengths (k + 1) 0
 
-    n-is : n ≡ getD lengths (suc k) 0
+    pub n-is : n ≡ getD lengths (suc k) 0
     n-is = ap (λ (i : ℕ). getD lengths i 0) (omega arith)
 
-    qs-is : qs ≡ ring-in lengths ps (suc k)
+    pub qs-is : qs ≡ ring-in lengths ps (suc k)
     unfolding ring-in
     qs-is = ap (λ (i : ℕ). drop (2 * i) ps) (h .start)
 
@@ -174,13 +173,13 @@ module _ (lengths : List ℕ) (ps : List Float) where
     unfolding rounds total-step
     next-start = omega (arith, h .start, n-is)
 
-    hole-loading : Loading (suc k) (hole-loaded s qs n (check-ring 32 (k + 1) qs n))
+    hole-loading : Loading (suc k) (hole-loaded s qs n (check-door 32 (k + 1) qs n))
     unfolding hole-loaded rings-refused
     hole-loading =
-        let c : Checked = check-ring 32 (k + 1) qs n in
+        let c : Checked = check-door 32 (k + 1) qs n in
         by-test (Loading (suc k)) (granted (c .refusal))
         (λ g.
-        let fit : c .count ≤ 32 = check-sound 32 (k + 1) qs n g .fits in
+        let fit : c .count ≤ 32 = check-sound true 32 (k + 1) qs n g .fits in
         let more : More (s .shape) (h .room) qs (c .count) (c .back) fit (with-hole (s .shape) qs (c .count) (c .back)) = with-more (s .shape) (h .room) qs (c .count) (c .back) fit in
         record { loaded = λ q. next (with-hole (s .shape) qs (c .count) (c .back)) (c .count) (c .back) fit more (λ rs same. checked-stands 32 (k + 1) qs n rs g same) })
         (λ g. record { loaded = λ q. absurd (false≢true (sym g ∙ q)) })
@@ -200,7 +199,7 @@ module _ (lengths : List ℕ) (ps : List Float) where
           doubles = λ d. w .doubles (subst Doubles (sym qs-is) (ring-in-doubles (suc k) d)) (h .doubles d);
         }
 
-  step-loading : (k : ℕ) (s : RegionLoad) → Loading k s → Loading (suc k) (hole-load-step lengths ps k s)
+  pub step-loading : (k : ℕ) (s : RegionLoad) → Loading k s → Loading (suc k) (hole-load-step lengths ps k s)
   unfolding hole-load-step
   step-loading k s h =
       by-test (Loading (suc k)) (granted (s .refusal)) (λ g. hole-loading k s (h .loaded g)) (λ g. record { loaded = λ q. absurd (false≢true (sym g ∙ q)) })
@@ -208,7 +207,7 @@ module _ (lengths : List ℕ) (ps : List Float) where
   rings-loaded : granted ((load-rings lengths ps) .refusal) ≡ true → LoadedTo (length lengths - 1) (load-rings lengths ps)
   unfolding load-rings
   rings-loaded q =
-      rounds-keep (hole-load-step lengths ps) Loading (outer-loaded ps (getD lengths 0 0) (check-ring 128 0 ps (getD lengths 0 0))) outer-loading step-loading (length lengths - 1) .loaded q
+      rounds-keep (hole-load-step lengths ps) Loading (outer-loaded ps (getD lengths 0 0) (check-door 128 0 ps (getD lengths 0 0))) outer-loading step-loading (length lengths - 1) .loaded q
 
   -- ---- a region whose rings stand for those of the numbers
 
@@ -273,7 +272,7 @@ module _ (lengths : List ℕ) (ps : List Float) where
           drawn-far (ring-points r l) (ring-count r l) (ring-in lengths ps l) (getD lengths l 0) (s .each l i) (over x) M (ring k) (count k) (ring-in-doubles l d) (far k l z i);
     }
 
-  -- ---- the region that 4 to 12, and that 1 to 12 make of the numbers
+  -- ---- the region that 4 to 12 with 27, and that 1 to 12 with 27 make of the numbers
 
   record LoadedStands (a : NewRegion) : Type 0 where
     stands : granted (a .refusal) ≡ true → a .shape .holes ≤ 8 → RegionStands (a .shape)
@@ -296,15 +295,15 @@ module _ (lengths : List ℕ) (ps : List Float) where
           (λ e. refused-stands (check-region (s .shape)) e))
           (λ g. refused-stands (s .refusal) g)
 
-  record Accepted (a : NewRegion) : Type 0 where
-    is : granted (a .refusal) ≡ true → region-loaded (load-rings lengths ps) ≡ a
+  pub record Accepted (a : NewRegion) : Type 0 where
+    pub is : granted (a .refusal) ≡ true → region-loaded (load-rings lengths ps) ≡ a
     some : granted (a .refusal) ≡ true → 0 < length lengths
 
   refused-not : (u : Refusal) → granted u ≡ false → Accepted (region-refused u)
   unfolding region-refused
   refused-not u h = record { is = λ q. absurd (false≢true (sym h ∙ q)); some = λ q. absurd (false≢true (sym h ∙ q)) }
 
-  region-is : Accepted (region lengths ps)
+  pub region-is : Accepted (region lengths ps)
   unfolding region region-finite granted number values
   region-is =
       both Accepted (eqb (length ps % 2) 0)

@@ -6,7 +6,6 @@ use mathlib.Core.Bool.{Bool, true, false, cond, false≢true}
 use mathlib.Core.List.{List}
 use borrow.Author.Tests.{eqb-true}
 use lib.Dec.{T, eqb}
-use mathlib.Mathlib.Data.Bool.Basic.{and-elim-left}
 use lib.ListN.{getD, length}
 use lib.Ieee.{Float, binary64, fits, lt}
 use Rattle.error.specs.declared.Refusal.{Refusal}
@@ -40,15 +39,15 @@ use Rattle.margin.proofs.DrawnRings.{RegionStands, rings-stand, drawn-r
 
 -- ---- a granted job is answered yes by 22, 1, 2 and 3
 
-record Asked (s n f l : Bool) (x a : RegionOffset) : Type 0 where
-  fit : granted (a .refusal) ≡ true → l ≡ true
-  is : granted (a .refusal) ≡ true → a ≡ x
+pub record Asked (s n f l : Bool) (x a : RegionOffset) : Type 0 where
+  pub fit : granted (a .refusal) ≡ true → l ≡ true
+  pub is : granted (a .refusal) ≡ true → a ≡ x
 
 refused-none : (s n f l : Bool) (x : RegionOffset) (u : Refusal) → granted u ≡ false → Asked s n f l x (job-refused u)
 unfolding job-refused
 refused-none s n f l x u h = record { fit = λ q. absurd (false≢true (sym h ∙ q)); is = λ q. absurd (false≢true (sym h ∙ q)) }
 
-asked : (s n f l : Bool) (x : RegionOffset) (r : Refusal) → granted r ≡ f
+pub asked : (s n f l : Bool) (x : RegionOffset) (r : Refusal) → granted r ≡ f
     → Asked s n f l x (cond s (cond n (cond f (cond l x (job-refused Lengths)) (job-refused r)) (job-refused Odd)) (job-refused Job))
 unfolding granted number values
 asked true true true true x r e = record { fit = λ q. refl; is = λ q. refl }

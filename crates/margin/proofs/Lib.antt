@@ -15,3 +15,4 @@ pub mod Jobs
 pub mod Given
 pub mod RingsApart
 pub mod Meeting
+pub mod Hairlines

@@ -30,7 +30,7 @@ pub record DrawnMargin (d : Float) (ps : List Float) (n : ℕ) (qs : List Float)
   pub largest : Largest ps n most
   pub far : RingFar (over d) most qs m ps n
 
--- n vertices that pass 4 to 9
+-- n vertices that pass 4 to 9 and 27
 abbrev pub NewOutlineMargin : Type 0
 NewOutlineMargin =
     (ps : List Float) (n : ℕ) (d : Float) → Doubles ps → T (fits binary64 d) →
@@ -39,7 +39,7 @@ NewOutlineMargin =
     DrawnMargin d ps n ((offset ((new-outline ps n) .shape) false d) .shape .points)
     ((offset ((new-outline ps n) .shape) false d) .shape .count)
 
--- numbers that pass 1, 2 and 4 to 9
+-- numbers that pass 1, 2, 4 to 9 and 27
 abbrev pub OutlineMargin : Type 0
 OutlineMargin =
     (ps : List Float) (d : Float) → Doubles ps → T (fits binary64 d) →
@@ -58,7 +58,7 @@ pub record DrawnRings (d : Float) (lengths : List ℕ) (ps : List Float) (rings 
   pub far : (k l : ℕ) → k < rings → l < length lengths →
       RingFar (over d) most (ring k) (count k) (ring-in lengths ps l) (getD lengths l 0)
 
--- numbers that pass 1 to 12
+-- numbers that pass 1 to 12 and 27
 abbrev pub RegionMargin : Type 0
 RegionMargin =
     (lengths : List ℕ) (ps : List Float) (d : Float) → Doubles ps → T (fits binary64 d) →

@@ -3,3 +3,4 @@ pub mod Lent
 pub mod Drawn
 pub mod Jobs
 pub mod Meeting
+pub mod Hairlines

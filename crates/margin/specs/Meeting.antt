@@ -28,7 +28,7 @@ pub record MeetsNotItself (ps : List Float) (n : ℕ) : Type 0 where
 abbrev pub MeetsNot : List Float → ℕ → List Float → ℕ → Type 0
 MeetsNot ps n qs m = RingsShare ps n qs m → ⊥
 
--- numbers that pass 1, 2 and 4 to 9, as they are stored
+-- numbers that pass 1, 2, 4 to 9 and 27, as they are stored
 abbrev pub OutlineMeetsNot : Type 0
 OutlineMeetsNot =
     (ps : List Float) → Doubles ps → granted ((outline ps) .refusal) ≡ true →

@@ -32,7 +32,7 @@ use Rattle.error.specs.Refusals.{number, values, granted}
 use Rattle.ring.specs.Ring.{vertex-at}
 use Rattle.ring_measure.specs.Measures.{signed-area, extent}
 use Rattle.ring_cross.specs.Meet.{rings-meet}
-use Rattle.ring_check.specs.Checks.{check-ring}
+use Rattle.ring_check.specs.Checks.{check-door}
 use Rattle.outline.specs.Outlines.{proper, no-outline, stored-outline, outline-refused, outline-of, outline-if, new-outline, outline, offset-tolerance, check-finite}
 use Rattle.front.specs.Sweeps.{sweep-from, offset-rings}
 use Rattle.front.specs.Demand.{givens, Demand}
@@ -200,7 +200,7 @@ granted-empty o = record { empty = λ q. absurd (false≢true (sym q)) }
 pub outline-empty : OutlineEmpty
 unfolding outline outline-if new-outline outline-of
 outline-empty ps =
-    let c : Checked = check-ring 128 0 ps (length ps / 2) in
+    let c : Checked = check-door 128 0 ps (length ps / 2) in
     both EmptyNew (eqb (length ps % 2) 0)
     (both EmptyNew (granted (check-finite ps))
     (both EmptyNew (granted (c .refusal)) (granted-empty (stored-outline ps (c .count) (c .back))) (refused-empty (c .refusal)))

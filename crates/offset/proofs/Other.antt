@@ -1,7 +1,7 @@
 -- No check of a ring and no piece is refused by 18. Assumes nothing.
 use Prim.Native.Nat.{ℕ, _-_}
 use mathlib.Core.Logic.{_≢_}
-use mathlib.Core.Bool.{Bool}
+use mathlib.Core.Bool.{Bool, false}
 use mathlib.Core.List.{List}
 use native.Mathlib.Omega.{arith}
 use lib.Dec.{ltb, eqb}
@@ -20,7 +20,7 @@ use Rattle.math.specs.Number.{zero-float}
 use Rattle.ring.specs.Ring.{vertex-at}
 use Rattle.ring_measure.specs.Measures.{signed-area, span}
 use Rattle.ring_cross.specs.Simple.{check-simple}
-use Rattle.ring_check.specs.Checks.{kept, beyond, vertex-refusal, range-step, check-range, repeats, flat, crossed, refused, passed, check-reversed, check-area, check-shape, check-in-range, check-kept, check-ring}
+use Rattle.ring_check.specs.Checks.{kept, beyond, vertex-refusal, range-step, check-range, repeats, flat, crossed, refused, passed, check-reversed, check-area, check-shape, check-in-range, check-kept, check-by}
 use Rattle.base.proofs.Laws.{rounds-keep}
 use Rattle.base.proofs.Choices.{both}
 use Rattle.offset.specs.Rings.{check-piece, vanished, piece-by, offset-piece}
@@ -72,14 +72,14 @@ reversed-other ring ps n back =
     let r : Refusal = crossed ring n back (check-simple ps n back) in
     both OtherCheck (granted r) (record { other = granted-other }) (refused-other r (crossed-other ring n back (check-simple ps n back)))
 
-shape-other : (ring : ℕ) (ps : List Float) (n : ℕ) → OtherCheck (check-shape ring ps n)
+shape-other : (ring : ℕ) (ps : List Float) (n : ℕ) → OtherCheck (check-shape false ring ps n)
 unfolding check-shape check-area number values
 shape-other ring ps n =
     both OtherCheck (repeats ps n) (refused-other (Repeated ring) (record { no = λ q. omega arith }))
     (both OtherCheck (flat (signed-area ps n) (span ps n)) (refused-other (Flat ring) (record { no = λ q. omega arith }))
     (reversed-other ring ps n (lt (signed-area ps n) zero-float)))
 
-kept-other : (room ring : ℕ) (ps : List Float) (n : ℕ) → OtherCheck (check-kept room ring ps n)
+kept-other : (room ring : ℕ) (ps : List Float) (n : ℕ) → OtherCheck (check-kept false room ring ps n)
 unfolding check-kept check-in-range number values
 kept-other room ring ps n =
     both OtherCheck (ltb n 3) (refused-other (Few ring n) (record { no = λ q. omega arith }))
@@ -104,7 +104,7 @@ by-other d tolerance w c h =
     (both OtherPiece (vanished (w .points) (w .count) tolerance (c .refusal)) {x = Shrunk} {y = Failed (offset-failure d (c .refusal))} tt (failure-other d (c .refusal) (h .other)))
 
 check-piece-other : (room place : ℕ) (ps : List Float) (n : ℕ) → OtherCheck (check-piece room place ps n)
-unfolding check-piece check-ring
+unfolding check-piece check-by
 check-piece-other room place ps n = kept-other room place ps (kept ps n)
 
 pub piece-other : (room place : ℕ) (d tolerance : Float) (w : Walk) → OtherPiece (offset-piece room place d tolerance w)

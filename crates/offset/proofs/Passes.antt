@@ -1,7 +1,7 @@
 -- A piece that is whole is a ring that passes 4 to 9. Assumes nothing.
 use Prim.Native.Nat.{ℕ}
 use mathlib.Core.Path.{_≡_}
-use mathlib.Core.Bool.{true}
+use mathlib.Core.Bool.{true, false}
 use mathlib.Core.List.{List}
 use lib.Ieee.{Float}
 use Rattle.error.specs.declared.Refusal.the-variants.{Splits}
@@ -24,7 +24,7 @@ PassedPiece room w (Whole n back) = Passed room (w .points) (w .count) n back
 check-piece-sound : (room place : ℕ) (ps : List Float) (n : ℕ) → granted ((check-piece room place ps n) .refusal) ≡ true
     → Passed room ps n ((check-piece room place ps n) .count) ((check-piece room place ps n) .back)
 unfolding check-piece
-check-piece-sound room place ps n h = check-sound room place ps n h
+check-piece-sound room place ps n h = check-sound false room place ps n h
 
 pub piece-sound : (room place : ℕ) (d tolerance : Float) (w : Walk) → PassedPiece room w (offset-piece room place d tolerance w)
 unfolding offset-piece piece-by

@@ -143,7 +143,7 @@ OffsetAccepted =
 
 -- ---- what is accepted passes 21 again
 
--- 4 to 9 alone, of any numbers and any count
+-- 4 to 9 and 27 alone, of any numbers and any count
 abbrev pub NewOutlineProper : Type 0
 NewOutlineProper =
     (ps : List Float) (n : ℕ) → granted ((new-outline ps n) .refusal) ≡ true →

@@ -18,7 +18,7 @@ use Rattle.ring.specs.Ring.{vertex-at, stored-at}
 use Rattle.ring.specs.Store.{stored}
 use Rattle.ring.proofs.Storing.{stored-new}
 use Rattle.ring_check.specs.declared.Checked.{Checked}
-use Rattle.ring_check.specs.Checks.{check-ring}
+use Rattle.ring_check.specs.Checks.{check-door}
 use Rattle.ring_check.proofs.Sound.{Passed, check-sound}
 use Rattle.outline.specs.declared.NewOutline.{NewOutline}
 use Rattle.outline.specs.Outlines.{proper, stored-outline, outline-refused, outline-of, outline-if, new-outline, outline, check-finite}
@@ -47,9 +47,9 @@ refused-good r h = record { good = λ q. absurd (false≢true (sym h ∙ q)) }
 new-outline-sound : (ps : List Float) (n : ℕ) → GoodNew (new-outline ps n)
 unfolding new-outline outline-of granted number values
 new-outline-sound ps n =
-    let c : Checked = check-ring 128 0 ps n in
+    let c : Checked = check-door 128 0 ps n in
     by-test GoodNew (granted (c .refusal))
-    (λ h. record { good = λ q. outline-good ps n (c .count) (c .back) (check-sound 128 0 ps n h) })
+    (λ h. record { good = λ q. outline-good ps n (c .count) (c .back) (check-sound true 128 0 ps n h) })
     (λ h. refused-good (c .refusal) h)
 
 pub new-outline-proper : (ps : List Float) (n : ℕ) → granted ((new-outline ps n) .refusal) ≡ true → proper 128 ((new-outline ps n) .shape .points) ((new-outline ps n) .shape .count) ≡ true

@@ -1,4 +1,4 @@
--- polygon.rs, `Polygon`: the outline of given numbers (questions 1, 2 and 4 to 9), and question 21. Assumes nothing.
+-- polygon.rs, `Polygon`: the outline of given numbers (questions 1, 2, 4 to 7, 27, 8 and 9), and question 21. Assumes nothing.
 use mathlib.Core.Bool.{Bool, true, cond, _&&_}
 use lib.Ieee.{Float, nan, binary64, le, ofBits}
 use Prim.Native.Nat.{ℕ, _*_, _/_, _%_}
@@ -13,7 +13,7 @@ use Rattle.error.specs.declared.Refusal.{Refusal}
 use Rattle.math.specs.Number.{zero-float, finite, abs, add, mul, one}
 use Rattle.ring.specs.Store.{stored}
 use Rattle.error.specs.Refusals.{granted}
-use Rattle.ring_check.specs.Checks.{check-ring, max-coordinate}
+use Rattle.ring_check.specs.Checks.{check-door, max-coordinate}
 use Rattle.base.specs.Loop.{rounds}
 
 -- the double nearest to 1e-9
@@ -34,9 +34,9 @@ outline-of ps c =
     cond (granted (c .refusal)) (record { refusal = Granted; shape = stored-outline ps (c .count) (c .back) })
     (outline-refused (c .refusal))
 
--- questions 4 to 9 of n vertices
+-- questions 4 to 7, 27, 8 and 9 of n vertices
 unfoldable pub new-outline : List Float → ℕ → NewOutline
-new-outline ps n = outline-of ps (check-ring 128 0 ps n)
+new-outline ps n = outline-of ps (check-door 128 0 ps n)
 
 -- question 2: the first number that is not finite
 unfoldable pub finite-step : List Float → ℕ → Refusal → Refusal
@@ -48,7 +48,7 @@ check-finite ps = rounds (finite-step ps) (length ps) Granted
 unfoldable pub outline-if : List Float → Refusal → NewOutline
 outline-if ps r = cond (granted r) (new-outline ps (length ps / 2)) (outline-refused r)
 
--- the outline check of numbers that come in from outside: questions 1, 2 and 4 to 9
+-- the outline check of numbers that come in from outside: questions 1, 2, 4 to 7, 27, 8 and 9
 unfoldable pub outline : List Float → NewOutline
 outline ps = cond (eqb (length ps % 2) 0) (outline-if ps (check-finite ps)) (outline-refused Odd)
 

@@ -22,7 +22,7 @@ pub struct NewOutline {
 }
 
 impl Outline {
-    // The outline of these numbers: questions 1, 2 and 4 to 9.
+    // The outline of these numbers: questions 1, 2, 4 to 7, 27, 8 and 9.
     pub fn new(ps: &[f64]) -> NewOutline
         ensures { λ r. ⌜ r ≡ Outlines.outline (now (ps .entry)) ⌝ }
     {

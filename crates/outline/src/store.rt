@@ -59,9 +59,9 @@ pub(crate) fn outline_of(ps: &[f64], c: Checked) -> NewOutline
     }
 }
 
-// Questions 4 to 9 of n vertices.
+// Questions 4 to 7, 27, 8 and 9 of n vertices.
 pub fn new_outline(ps: &[f64], n: usize) -> NewOutline
     ensures { λ r. ⌜ r ≡ Outlines.new-outline (now (ps .entry)) n ⌝ }
 {
-    outline_of(ps, ring_check::check_ring(128, 0, ps, n))
+    outline_of(ps, ring_check::check_door(128, 0, ps, n))
 }

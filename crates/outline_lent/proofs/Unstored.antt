@@ -16,7 +16,7 @@ use Rattle.error.specs.Refusals.{values, number, granted}
 use Rattle.ring.specs.Ring.{vertex-at, stored-at}
 use Rattle.ring.specs.Store.{stored}
 use Rattle.ring_check.specs.declared.Checked.{Checked}
-use Rattle.ring_check.specs.Checks.{check-ring, refused}
+use Rattle.ring_check.specs.Checks.{check-door, refused}
 use Rattle.outline.specs.declared.NewOutline.{NewOutline}
 use Rattle.outline.specs.Outlines.{outline, outline-if, new-outline, outline-of, outline-refused, no-outline, stored-outline, check-finite, proper, ask, ask-ring}
 use Rattle.outline.proofs.Outlines.{outline-proper}
@@ -32,7 +32,7 @@ pub outline-is : (ps : List Float) → outline ps ≡ outline-of ps (check-numbe
 unfolding outline outline-if new-outline outline-of check-numbers check-if refused granted number values
 outline-is ps = go (eqb (length ps % 2) 0)
   where
-    finite : (r : Refusal) (b : Bool) → granted r ≡ b → cond b (new-outline ps (length ps / 2)) (outline-refused r) ≡ outline-of ps (cond b (check-ring 128 0 ps (length ps / 2)) (refused r))
+    finite : (r : Refusal) (b : Bool) → granted r ≡ b → cond b (new-outline ps (length ps / 2)) (outline-refused r) ≡ outline-of ps (cond b (check-door 128 0 ps (length ps / 2)) (refused r))
     finite r true e = refl
     finite r false e = rw e refl
 

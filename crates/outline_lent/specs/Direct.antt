@@ -9,16 +9,16 @@ use Rattle.error.specs.declared.Refusal.{Refusal}
 use Rattle.error.specs.declared.Refusal.the-variants.{Odd}
 use Rattle.error.specs.Refusals.{granted}
 use Rattle.ring_check.specs.declared.Checked.{Checked}
-use Rattle.ring_check.specs.Checks.{check-ring, refused}
+use Rattle.ring_check.specs.Checks.{check-door, refused}
 use Rattle.outline.specs.declared.NewOutline.{NewOutline}
 use Rattle.outline.specs.Outlines.{check-finite}
 use Rattle.outline_lent.specs.Writes.{ring-write, written-ring}
 use Rattle.outline_lent.specs.declared.direct.Counted.{Counted}
 
 unfoldable pub check-if : List Float → Refusal → Checked
-check-if ps r = cond (granted r) (check-ring 128 0 ps (length ps / 2)) (refused r)
+check-if ps r = cond (granted r) (check-door 128 0 ps (length ps / 2)) (refused r)
 
--- questions 1, 2 and 4 to 9 of numbers
+-- questions 1, 2, 4 to 7, 27, 8 and 9 of numbers
 unfoldable pub check-numbers : List Float → Checked
 check-numbers ps = cond (eqb (length ps % 2) 0) (check-if ps (check-finite ps)) (refused Odd)
 

@@ -19,13 +19,13 @@ pub(crate) fn check_if(ps: &[f64], r: Refusal) -> Checked
     ensures { λ x. ⌜ x ≡ Direct.check-if (now (ps .entry)) r ⌝ }
 {
     if r.granted() {
-        ring_check::check_ring(128, 0, ps, ps.len() / 2)
+        ring_check::check_door(128, 0, ps, ps.len() / 2)
     } else {
         ring_check::refused(r)
     }
 }
 
-// Questions 1, 2 and 4 to 9.
+// Questions 1, 2, 4 to 7, 27, 8 and 9.
 pub(crate) fn check_numbers(ps: &[f64]) -> Checked
     ensures { λ r. ⌜ r ≡ Direct.check-numbers (now (ps .entry)) ⌝ }
 {
@@ -70,7 +70,7 @@ pub(crate) fn write_stored(ps: &[f64], n: usize, back: bool, out: &mut [f64])
     }
 }
 
-// The outline of these numbers, written to `out`: questions 1, 2 and 4 to 9, then 20. A refused write changes nothing.
+// The outline of these numbers, written to `out`: questions 1, 2, 4 to 7, 27, 8 and 9, then 20. A refused write changes nothing.
 pub fn write_outline(ps: &[f64], out: &mut [f64]) -> Counted
     ensures answered { λ r. ⌜ r ≡ Direct.told (Outlines.outline (now (ps .entry))) (now (out .entry)) ⌝ }
     ensures written { λ _. ⌜ now (out .exit) ≡ Direct.over-outline (Outlines.outline (now (ps .entry))) (now (out .entry)) ⌝ }

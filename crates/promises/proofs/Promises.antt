@@ -2,7 +2,7 @@
 use Prim.Native.Nat.{ℕ, zero, suc, _+_, _*_, _/_, _%_, _≤_, _<_}
 use native.Mathlib.Omega.{arith}
 use mathlib.Core.Path.{_≡_, refl, sym, ap, _∙_, subst}
-use mathlib.Core.Logic.{inl, inr}
+use mathlib.Core.Logic.{_⊎_, inl, inr}
 use mathlib.Core.Bool.{Bool, true, false, cond, _&&_, false≢true, true≢false}
 use mathlib.Core.List.{List, [], _∷_, _++_}
 use borrow.Author.Tests.{ltb-true, lt-ltb, le-ltb, eqb-true, eqb-false, le-leb, lt-leb, eq-eqb, ne-eqb}
@@ -12,7 +12,7 @@ use lib.Ieee.{Float, nan, inf, fin, le, fits}
 use Rattle.error.specs.declared.Refusal.{Refusal}
 use Rattle.error.specs.declared.Refusal.the-variants.{Granted, Odd, NotFinite, Lengths, Few, Range, Room, Repeated, Flat, Crossed, ManyHoles}
 use Rattle.error.specs.declared.Refusal.the-variants.{HoleOutside, HolesTouch, Far, Negative, Slots, Collapses, Splits, Unfinished}
-use Rattle.error.specs.declared.Refusal.the-variants.{ManyPieces, Short, Shape, Job}
+use Rattle.error.specs.declared.Refusal.the-variants.{ManyPieces, Short, Shape, Job, Hairline}
 use Rattle.error.specs.Refusals.{number, values, granted}
 use Rattle.error.specs.Carries.{told, carried-of, carried}
 use Rattle.hypotenuse.specs.Hypot.{hypot}
@@ -24,7 +24,8 @@ use Rattle.plane.specs.declared.PlanarPoint.{PlanarPoint}
 use Rattle.plane.specs.declared.Containment.{Containment}
 use Rattle.plane.specs.declared.Containment.the-variants.{Inside, OnBoundary, Outside}
 use Rattle.plane.specs.declared.NewPoint.{NewPoint}
-use Rattle.plane.specs.Points.{origin, point-if, from-metres}
+use Rattle.plane.specs.Plane.{sub}
+use Rattle.plane.specs.Points.{origin, point-if, from-metres, length-of}
 use Rattle.base.specs.Loop.{rounds}
 use Rattle.areas.specs.declared.NewArea.{NewArea}
 use Rattle.areas.specs.Areas.{area-if, from-square-metres}
@@ -45,12 +46,16 @@ use Rattle.ring_cross.proofs.MeetExact.{rings-meet-exact}
 use Rattle.ring_cross.proofs.PairLaws.{pair-tells}
 use Rattle.told.specs.declared.LwMeeting.{LwMeeting}
 use Rattle.ring_cross.proofs.SimpleExact.{simple-exact}
-use Rattle.ring_check.specs.Checks.{max-coordinate}
+use Rattle.ring_check.specs.declared.Checked.{Checked}
+use Rattle.ring_check.specs.Checks.{max-coordinate, short-edge, hairline, check-ring, check-door}
+use Rattle.offset.specs.Rings.{check-piece}
+use Rattle.error.proofs.Laws.{granted-is}
+use Rattle.ring_check.proofs.Door.{door-tells}
 use Rattle.margins.specs.Far.{over, under, magnitude, margin-of}
 use Rattle.margins.proofs.Units.{units-of-bits}
 use Rattle.outline.specs.declared.Outline.{Outline}
 use Rattle.outline.specs.declared.NewOutline.{NewOutline}
-use Rattle.outline.specs.Outlines.{outline-refused, new-outline, no-outline, check-finite, outline-if, outline, in-range-step, in-range, proper, ask, ask-ring}
+use Rattle.outline.specs.Outlines.{outline-refused, outline-of, new-outline, no-outline, check-finite, outline-if, outline, in-range-step, in-range, proper, ask, ask-ring}
 use Rattle.outline_ask.specs.declared.Placed.{Placed}
 use Rattle.outline_ask.specs.declared.Measured.{Measured}
 use Rattle.outline_ask.specs.declared.Met.{Met}
@@ -142,6 +147,7 @@ use Rattle.lizardwire_c.proofs.Counted as Counted
 use Rattle.margin.specs.Margin.{Largest, LargestOfRings}
 use Rattle.margin.specs.Drawn.{DrawnMargin, DrawnRings}
 use Rattle.margin.specs.Meeting.{MeetsNotItself}
+use Rattle.margin.specs.Lent.{ring-in}
 use Rattle.margin.proofs.Extents.{largest-is}
 use Rattle.margin.proofs.RegionExtents.{region-largest-is}
 use Rattle.margin.proofs.Outlines.{offset-margin}
@@ -151,14 +157,16 @@ use Rattle.margin.proofs.DrawnRings.{region-margin}
 use Rattle.margin.proofs.Given.{region-given-margin}
 use Rattle.margin.proofs.Jobs.{job-margin}
 use Rattle.margin.proofs.Lent.{few-holes, offset-write-margin, inset-write-margin}
+use Rattle.margin.proofs.Hairlines.{outline-no-hairline, region-no-hairline, job-no-hairline}
 use Rattle.margin.proofs.Meeting.{outline-meets-not, offset-meets-not, inset-meets-not}
 use Rattle.margin_c.proofs.Told.{lw-inset-margin, lw-region-inset-margin, lw-stored-inset-margin}
 use Rattle.examples.specs.Table.{table}
 use Rattle.examples.proofs.Examples as Examples
+use Rattle.examples.proofs.Again.{again}
 use Rattle.promises.proofs.OneLine.{one-a-line}
 use Rattle.promises.specs.Promises as Promises
 use Rattle.promises.specs.Promises.{Accepted, Refused, Units, NoOutline, NoRegion, Lent, LentRings, EveryInput, RootOf, Length}
-use Rattle.promises.specs.Promises.{Sized, SizedRegion, Answers, InOneRing, Whole, Front, Bounds, FrontWhole}
+use Rattle.promises.specs.Promises.{Sized, SizedRegion, NotShort, NoHairline, Answers, InOneRing, Whole, Front, Bounds, FrontWhole}
 use Rattle.promises.specs.Promises.{Extent, RegionExtent, Margin, RingsMargin, TrueDistance}
 use Rattle.ring_gap.specs.Blocks.{gap-between, edge-gap, FromVertices}
 use Rattle.outline_sizes.proofs.ClearanceLaws.{clearance-tells}
@@ -177,13 +185,13 @@ units = record {
 
 -- ---- 1. every input
 
-other : (n : ℕ) (u : Refusal) → suc n ≤ 22 → (suc n ≤ 22) × (suc n ≡ 0 → u ≡ Granted)
-other n u l = (l, λ e. absurd (omega arith))
+other : (n : ℕ) (u : Refusal) → suc n ≤ 22 → ((suc n ≤ 22) ⊎ (suc n ≡ 27)) × (suc n ≡ 0 → u ≡ Granted)
+other n u l = (inl l, λ e. absurd (omega arith))
 
 -- each case has its number
-numbers : (u : Refusal) → (number u ≤ 22) × (number u ≡ 0 → u ≡ Granted)
+numbers : (u : Refusal) → ((number u ≤ 22) ⊎ (number u ≡ 27)) × (number u ≡ 0 → u ≡ Granted)
 unfolding number values
-numbers Granted = (omega arith, λ e. refl)
+numbers Granted = (inl (omega arith), λ e. refl)
 numbers Odd = other 0 Odd (omega arith)
 numbers (NotFinite i) = other 1 (NotFinite i) (omega arith)
 numbers Lengths = other 2 Lengths (omega arith)
@@ -206,18 +214,23 @@ numbers (ManyPieces n) = other 18 (ManyPieces n) (omega arith)
 numbers (Short n) = other 19 (Short n) (omega arith)
 numbers Shape = other 20 Shape (omega arith)
 numbers Job = other 21 Job (omega arith)
+numbers (Hairline r) = (inr refl, λ e. absurd (omega arith))
 
 zero-granted : number Granted ≡ 0
 unfolding number values
 zero-granted = refl
 
-numbered : (u : Refusal) → Refused u → (1 ≤ number u) × (number u ≤ 22)
+above : (n : ℕ) → (n ≡ 0 → ⊥) → 1 ≤ n
+above zero q = absurd (q refl)
+above (suc n) q = omega arith
+
+numbered : (u : Refusal) → Refused u → ((1 ≤ number u) × (number u ≤ 22)) ⊎ (number u ≡ 27)
 unfolding granted
-numbered u h = (above (number u) (eqb-false (number u) 0 h), numbers u .0)
+numbered u h = go (numbers u .0)
   where
-    above : (n : ℕ) → (n ≡ 0 → ⊥) → 1 ≤ n
-    above zero q = absurd (q refl)
-    above (suc n) q = omega arith
+    go : (number u ≤ 22) ⊎ (number u ≡ 27) → ((1 ≤ number u) × (number u ≤ 22)) ⊎ (number u ≡ 27)
+    go (inl l) = inl (above (number u) (eqb-false (number u) 0 h), l)
+    go (inr e) = inr e
 
 -- empty shapes
 
@@ -865,6 +878,37 @@ one-sum : (n : ℕ) → 2 * total (n ∷ []) ≡ 2 * n
 unfolding total total-step rounds
 one-sum n = omega arith
 
+-- hairlines
+
+drawing-asked : (ps : List Float) → length ps % 2 ≡ 0 → Accepted (check-finite ps) → (outline ps) .refusal ≡ (check-door 128 0 ps (length ps / 2)) .refusal
+unfolding outline outline-if new-outline outline-of outline-refused
+drawing-asked ps even g = rw (eq-eqb (length ps % 2) 0 even, g) (go (check-door 128 0 ps (length ps / 2)))
+  where
+    go : (c : Checked) → (outline-of ps c) .refusal ≡ c .refusal
+    go c = by-test (λ (a : NewOutline). a .refusal ≡ c .refusal) (granted (c .refusal)) (λ h. sym (granted-is (c .refusal) h)) (λ h. refl)
+
+piece-asked : (room place : ℕ) (ps : List Float) (n : ℕ) → check-piece room place ps n ≡ check-ring room place ps n
+unfolding check-piece
+piece-asked room place ps n = refl
+
+outline-long : (ps : List Float) → Accepted ((outline ps) .refusal) → NoHairline ps (length ps / 2)
+unfolding short-edge length-of sub
+outline-long = outline-no-hairline
+
+region-long : (lengths : List ℕ) (ps : List Float) → Accepted ((region lengths ps) .refusal) → (l : ℕ) → l < length lengths → NoHairline (ring-in lengths ps l) (getD lengths l 0)
+unfolding short-edge length-of sub
+region-long = region-no-hairline
+
+job-long : (outward : Bool) (d : Float) (lengths : List ℕ) (ps : List Float) → Accepted ((job outward d lengths ps) .refusal)
+    → (l : ℕ) → l < length lengths → NoHairline (ring-in lengths ps l) (getD lengths l 0)
+unfolding short-edge length-of sub
+job-long = job-no-hairline
+
+short-edges : (ps : List Float) (n : ℕ)
+    → (hairline ps n ≡ true → (k : ℕ) × (k < n) × (NotShort ps n k → ⊥)) × (hairline ps n ≡ false → (k : ℕ) → k < n → NotShort ps n k)
+unfolding short-edge length-of sub
+short-edges ps n = (λ h. let w = door-tells .some ps n h in (w .edge, w .under, λ q. true≢false (sym (w .short) ∙ q)), door-tells .none ps n)
+
 the-answers : Answers
 unfolding offset-plain region-plain
 the-answers = record {
@@ -893,6 +937,15 @@ the-answers = record {
   inset-passed = λ r d g l.
       let k = inset-accepted r d g l in
       record { simple = k .simple; checked = k .region; side = k .side; gap = k .gap; apart = k .apart };
+  outline-long = outline-long;
+  region-long = region-long;
+  job-long = job-long;
+  drawing-asked = drawing-asked;
+  piece-asked = piece-asked;
+  door = door-tells .is;
+  short-edges = short-edges;
+  shortest = door-tells .bound;
+  nearest-to-it = door-tells .nearest;
   handed = stored-as-handed;
   handed-asked = stored-asked;
   outlines-handed = given-as-handed;
@@ -1202,6 +1255,9 @@ drawn = record {
   inset-one = Examples.examples 10 (ltb-true 10 (length table) refl);
   inset-two = Examples.examples 11 (ltb-true 11 (length table) refl);
   crossed = Examples.examples 5 (ltb-true 5 (length table) refl);
+  hairline-inset = again .accepted;
+  hairline-drawn = again .outside;
+  hairline-again = again .again;
   bytes = table-holds;
 }
 

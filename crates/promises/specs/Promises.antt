@@ -29,14 +29,14 @@
 use Prim.Native.Nat.{ℕ, suc, _+_, _-_, _*_, _/_, _%_, _^_, _≤_, _<_}
 use mathlib.Core.Path.{_≡_}
 use mathlib.Core.Logic.{_⊎_}
-use mathlib.Core.Bool.{Bool, true, false, cond}
+use mathlib.Core.Bool.{Bool, true, false, cond, _&&_}
 use mathlib.Core.List.{List, [], _∷_, _++_, map}
 use lib.Dec.{T, leb}
 use lib.ListN.{getD, length, replicate, take, drop}
 use lib.Ieee.{Float, nan, inf, binary64, fits, lt, le, eq, ofBits}
 use lib.Ieee.Exact.{HasValue}
 use Rattle.error.specs.declared.Refusal.{Refusal}
-use Rattle.error.specs.declared.Refusal.the-variants.{Granted, Short, Shape}
+use Rattle.error.specs.declared.Refusal.the-variants.{Granted, Short, Shape, Hairline}
 use Rattle.error.specs.Refusals.{number, values, granted}
 use Rattle.hypotenuse.specs.Hypot.{hypot}
 use Rattle.hypotenuse.specs.Nearest.{HasUnits, Infinite, Held, edge, IsHypot}
@@ -58,9 +58,11 @@ use Rattle.ring_cross.specs.Meet.{rings-meet}
 use Rattle.ring_cross.specs.declared.Crossing.the-variants.{Simple, Edges}
 use Rattle.ring_cross.specs.Simple.{check-simple}
 use Rattle.ring_cross.specs.SimpleExact.{FiniteRing, Folded, Why}
+use Rattle.ring_check.specs.Checks.{kept, hairline, refused, check-ring, check-door}
+use Rattle.ring_check.specs.Door.{past-seven}
 use Rattle.margins.specs.Far.{over, under, magnitude, field-units, sign-of, field-of, digits-of, squared-apart}
 use Rattle.outline.specs.declared.Outline.{Outline}
-use Rattle.outline.specs.Outlines.{outline, stored-outline, proper, relative-tolerance}
+use Rattle.outline.specs.Outlines.{outline, check-finite, stored-outline, proper, relative-tolerance}
 use Rattle.outline_ask.specs.Queries as Query
 use Rattle.outline_ask.specs.Queries.{measured, footed, edged, contains, nearest, area}
 use Rattle.outline_lent.specs.Writes.{outline-write, written-outline}
@@ -68,7 +70,8 @@ use Rattle.front.specs.declared.Edge.{Edge}
 use Rattle.front.specs.declared.Loaded.{Loaded}
 use Rattle.front.specs.Links.{links, along}
 use Rattle.front.specs.Demand.{Counts, Demand, givens, run, Each, Looks, tidied, events, tally, swept}
-use Rattle.offset.specs.Offsets.{offset, outline-load, check-distance}
+use Rattle.offset.specs.Rings.{check-piece}
+use Rattle.offset.specs.Offsets.{offset, inset, outline-load, check-distance}
 use Rattle.offset.specs.Lent.{offset-write, written-offset}
 use Rattle.region.specs.declared.Region.{Region}
 use Rattle.region.specs.declared.NewRegion.{NewRegion}
@@ -112,7 +115,8 @@ use Rattle.lizardwire_c.specs.Exports.{told-nearest, told-area, told-meeting, t
 use Rattle.margin.specs.Margin.{Doubles, RegionDoubles}
 use Rattle.margin.specs.Lent.{ring-in}
 use Rattle.margin.specs.Drawn.{given-ring, GivenMargin}
-use Rattle.examples.specs.Table.{table, row-at, answer, outline-of, inset-of, rings, no, w, S}
+use Rattle.examples.specs.Table.{table, row-at, answer, offset-answer, outline-of, inset-of, rings, no, w, S}
+use Rattle.examples.specs.Again as Again
 
 -- x is a double, as all numbers of the code are; `Doubles ps` says it of the numbers of a list, and `RegionDoubles r` of those of a region
 abbrev pub Double : Float → Type 0
@@ -184,9 +188,9 @@ pub record LentRings (u : Refusal) (q : Region) (out after : List Float) : Type 
 pub record EveryInput : Type 0 where
   -- ---- the refusal
 
-  -- Its number is that of the question, 1 to 22; 0 is told where nothing is refused, and only there.
+  -- Its number is that of the question, 1 to 22 or 27; 0 is told where nothing is refused, and only there.
   pub granted-zero : number Granted ≡ 0
-  pub numbered : (u : Refusal) → Refused u → (1 ≤ number u) × (number u ≤ 22)
+  pub numbered : (u : Refusal) → Refused u → ((1 ≤ number u) × (number u ≤ 22)) ⊎ (number u ≡ 27)
   pub accepted-only : (u : Refusal) → Accepted u → u ≡ Granted
   pub zero-only : (u : Refusal) → number u ≡ 0 → u ≡ Granted
   -- ---- the shape beside it
@@ -393,6 +397,18 @@ pub record PassedRegion (r : Region) (d : Float) (q : Region) : Type 0 where
       segments-meet (vertex-at (ring-points q k) i) (edge-end (ring-points q k) (ring-count q k) i)
       (vertex-at (ring-points r l) j) (edge-end (ring-points r l) (ring-count r l) j) ≡ false
 
+-- Edge k of n vertices, the last one closing the ring, is not shorter than 0.000001, as its length is computed. The double nearest to that
+-- is 4722366482869645 / 2 ^ 72, and those beside it are 1 / 2 ^ 72 away.
+abbrev pub NotShort : List Float → ℕ → ℕ → Type 0
+NotShort ps n k =
+    let a = vertex-at ps k in
+    let b = edge-end ps n k in
+    lt (hypot (Number.sub (b .east) (a .east)) (Number.sub (b .north) (a .north))) (ofBits binary64 0x3eb0c6f7a0b5ed8d) ≡ false
+
+-- so of every edge of n vertices that were drawn, a closing repeat being dropped
+abbrev pub NoHairline : List Float → ℕ → Type 0
+NoHairline ps n = let m = kept ps n in (k : ℕ) → k < m → NotShort ps m k
+
 pub record Answers : Type 0 where
   -- ---- sizes
 
@@ -416,6 +432,27 @@ pub record Answers : Type 0 where
   pub inset-sized : (r : Region) (d : Float) → let a = region-inset r d in Accepted (a .refusal) → SizedRegion (a .shape)
   pub job-sized : (outward : Bool) (d : Float) (lengths : List ℕ) (ps : List Float) → let a = job outward d lengths ps in
       Accepted (a .refusal) → SizedRegion (a .shape)
+  -- ---- hairlines
+
+  -- An outline that is accepted was drawn without an edge that short, and so was every ring of a region or a job that is.
+  pub outline-long : (ps : List Float) → Accepted ((outline ps) .refusal) → NoHairline ps (length ps / 2)
+  pub region-long : (lengths : List ℕ) (ps : List Float) → Accepted ((region lengths ps) .refusal) →
+      (l : ℕ) → l < length lengths → NoHairline (ring-in lengths ps l) (getD lengths l 0)
+  pub job-long : (outward : Bool) (d : Float) (lengths : List ℕ) (ps : List Float) → Accepted ((job outward d lengths ps) .refusal) →
+      (l : ℕ) → l < length lengths → NoHairline (ring-in lengths ps l) (getD lengths l 0)
+  -- An outline that comes in from outside is checked by `check-door`, and a piece that an offset leaves by `check-ring`.
+  pub drawing-asked : (ps : List Float) → length ps % 2 ≡ 0 → Accepted (check-finite ps) →
+      (outline ps) .refusal ≡ (check-door 128 0 ps (length ps / 2)) .refusal
+  pub piece-asked : (room place : ℕ) (ps : List Float) (n : ℕ) → check-piece room place ps n ≡ check-ring room place ps n
+  -- They differ by 27 alone: it refuses what is granted 4 to 7 (`past-seven`) and has such an edge (`hairline`), and any other ring is
+  -- answered as a piece.
+  pub door : (room ring : ℕ) (ps : List Float) (n : ℕ) → let c = check-ring room ring ps n in
+      check-door room ring ps n ≡ cond (past-seven (c .refusal) && hairline ps (kept ps n)) (refused (Hairline ring)) c
+  pub short-edges : (ps : List Float) (n : ℕ) →
+      (hairline ps n ≡ true → (k : ℕ) × (k < n) × (NotShort ps n k → ⊥))
+      × (hairline ps n ≡ false → (k : ℕ) → k < n → NotShort ps n k)
+  pub shortest : HasValue (ofBits binary64 0x3eb0c6f7a0b5ed8d) false 4722366482869645 (2 ^ 72)
+  pub nearest-to-it : (1000000 * (2 * 4722366482869645 - 1) < 2 * 2 ^ 72) × (2 * 2 ^ 72 < 1000000 * (2 * 4722366482869645 + 1))
   -- ---- offsets
 
   -- An outline that does not pass 21 is refused by it. Then 13 and 14 are asked of the distance: `check-distance`.
@@ -913,6 +950,12 @@ pub record Drawn : Type 0 where
   -- E5: (0, 0), (4, 4), (4, 0), (0, 2) is refused by 9, of ring 0, edges 0 and 2
   pub crossed : answer (outline-of (w 0 ∷ w 0 ∷ w 4 ∷ w 4 ∷ w 4 ∷ w 0 ∷ w 0 ∷ w 2 ∷ [])) ≡
       no 9 (0 ∷ []) (0 ∷ 2 ∷ []) [] []
+  -- R-7 (examples/specs/Again.antt): an inset with an edge of 2.3e-7, the cage of a square of side 4 with a corner cut off, is accepted. As
+  -- a drawing it is refused by 27 of ring 0, as it is it can be inset again.
+  pub hairline-inset : answer (inset-of Again.drawn Again.margin) ≡ rings (Again.cage ∷ []) (0 ∷ 0 ∷ 0 ∷ [])
+  pub hairline-drawn : answer (outline-of Again.cage) ≡ no 27 (0 ∷ []) [] [] []
+  pub hairline-again : offset-answer (inset ((inset ((outline Again.drawn) .shape) Again.margin) .shape) Again.tenth) ≡
+      rings (Again.inner ∷ []) (1 ∷ 0 ∷ 0 ∷ [])
   -- bytes to bytes
   pub bytes : (k : ℕ) → k < length Lines.table →
       answers (bytes-of ((Lines.row-at k) .input)) ≡ bytes-of ((Lines.row-at k) .output)

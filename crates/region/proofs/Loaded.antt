@@ -22,7 +22,7 @@ use Rattle.base.proofs.Choices.{by-test}
 use Rattle.base.proofs.Choices.{both}
 use Rattle.base.proofs.Tests.{all-pass}
 use Rattle.ring.specs.Ring.{vertex-at, source, stored-at}
-use Rattle.ring_check.specs.Checks.{check-ring}
+use Rattle.ring_check.specs.Checks.{check-door}
 use Rattle.ring_check.proofs.Sound.{Passed, check-sound}
 use Rattle.outline.specs.Outlines.{proper, stored-outline, check-finite}
 use Rattle.outline.proofs.Good.{good-ring, good-proper, proper-same}
@@ -83,15 +83,15 @@ module _ (lengths : List ℕ) (ps : List Float) where
   record Loading (s : RegionLoad) : Type 0 where
     sound : granted (s .refusal) ≡ true → Sound (s .shape)
 
-  outer-loading : Loading (outer-loaded ps (getD lengths 0 0) (check-ring 128 0 ps (getD lengths 0 0)))
+  outer-loading : Loading (outer-loaded ps (getD lengths 0 0) (check-door 128 0 ps (getD lengths 0 0)))
   unfolding outer-loaded stored-outline
   outer-loading =
       let n : ℕ = getD lengths 0 0 in
-      let c : Checked = check-ring 128 0 ps n in
+      let c : Checked = check-door 128 0 ps n in
       by-test Loading (granted (c .refusal))
       (λ h. record {
         sound = λ q. alone-sound (stored-outline ps (c .count) (c .back))
-            (good-proper 128 ((stored-outline ps (c .count) (c .back)) .points) (c .count) (outline-good ps n (c .count) (c .back) (check-sound 128 0 ps n h)));
+            (good-proper 128 ((stored-outline ps (c .count) (c .back)) .points) (c .count) (outline-good ps n (c .count) (c .back) (check-sound true 128 0 ps n h)));
       })
       (λ h. record { sound = λ q. absurd (false≢true (sym h ∙ q)) })
 
@@ -102,14 +102,14 @@ module _ (lengths : List ℕ) (ps : List Float) where
     abbrev n : ℕ
     n = getD lengths (k + 1) 0
 
-    hole-loading : Loading (hole-loaded s qs n (check-ring 32 (k + 1) qs n))
+    hole-loading : Loading (hole-loaded s qs n (check-door 32 (k + 1) qs n))
     unfolding hole-loaded rings-refused
     hole-loading =
-        let c : Checked = check-ring 32 (k + 1) qs n in
+        let c : Checked = check-door 32 (k + 1) qs n in
         by-test Loading (granted (c .refusal))
         (λ e. record {
           sound = λ q.
-              let p : Passed 32 qs n (c .count) (c .back) = check-sound 32 (k + 1) qs n e in
+              let p : Passed 32 qs n (c .count) (c .back) = check-sound true 32 (k + 1) qs n e in
               with-sound (s .shape) qs (c .count) (c .back) (p .fits)
               (λ rs same. good-proper 32 rs (c .count) (good-ring 32 qs n (c .count) (c .back) rs p same))
               (h .sound g);
@@ -124,7 +124,7 @@ module _ (lengths : List ℕ) (ps : List Float) where
   rings-sound : granted ((load-rings lengths ps) .refusal) ≡ true → Sound ((load-rings lengths ps) .shape)
   unfolding load-rings
   rings-sound q =
-      rounds-keep (hole-load-step lengths ps) (λ k s. Loading s) (outer-loaded ps (getD lengths 0 0) (check-ring 128 0 ps (getD lengths 0 0))) outer-loading step-loading
+      rounds-keep (hole-load-step lengths ps) (λ k s. Loading s) (outer-loaded ps (getD lengths 0 0) (check-door 128 0 ps (getD lengths 0 0))) outer-loading step-loading
       (length lengths - 1) .sound q
 
   -- beside a refusal nothing is loaded
@@ -139,11 +139,11 @@ module _ (lengths : List ℕ) (ps : List Float) where
   unfolding load-rings outer-loaded hole-load-step granted number values
   load-empty q =
       let n : ℕ = getD lengths 0 0 in
-      let c : Checked = check-ring 128 0 ps n in
+      let c : Checked = check-door 128 0 ps n in
       rounds-keep (hole-load-step lengths ps) (λ k s. Emptied s) (outer-loaded ps n c)
       (by-test Emptied (granted (c .refusal)) (λ e. record { empty = λ q. absurd (true≢false q) }) (λ e. record { empty = λ q. refl }))
       (λ k s h. by-test Emptied (granted (s .refusal))
-      (λ g. hole-emptied s (drop (2 * s .start) ps) (getD lengths (k + 1) 0) (check-ring 32 (k + 1) (drop (2 * s .start) ps) (getD lengths (k + 1) 0)))
+      (λ g. hole-emptied s (drop (2 * s .start) ps) (getD lengths (k + 1) 0) (check-door 32 (k + 1) (drop (2 * s .start) ps) (getD lengths (k + 1) 0)))
       (λ g. h))
       (length lengths - 1) .empty q
 

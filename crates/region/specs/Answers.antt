@@ -70,7 +70,7 @@ pub record RegionEmpty : Type 0 where
   pub given : (o : Outline) (hs : List Outline) → EmptyNewRegion (region-given o hs)
   pub alone : (o : Outline) → EmptyNewRegion (without-holes o)
 
--- of rings that are loaded: 4 to 9 alone, of any numbers and any lengths
+-- of rings that are loaded: 4 to 9 and 27 alone, of any numbers and any lengths
 abbrev pub LoadEmpty : Type 0
 LoadEmpty =
     (lengths : List ℕ) (ps : List Float) → granted ((load-rings lengths ps) .refusal) ≡ false →
@@ -127,7 +127,7 @@ InsetProper = (r : Region) (d : Float) → granted ((region-inset r d) .refusal)
 pub record ProperNewRegion (a : NewRegion) : Type 0 where
   pub proper : granted (a .refusal) ≡ true → proper-region (a .shape) ≡ true
 
--- a region from numbers; 4 to 12 alone, of any numbers and any lengths; a region from outlines, and one without holes
+-- a region from numbers; 4 to 12 and 27 alone, of any numbers and any lengths; a region from outlines, and one without holes
 pub record RegionProper : Type 0 where
   pub loaded : (lengths : List ℕ) (ps : List Float) → ProperNewRegion (region lengths ps)
   pub rings : (lengths : List ℕ) (ps : List Float) → ProperNewRegion (region-loaded (load-rings lengths ps))

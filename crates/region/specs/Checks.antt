@@ -1,4 +1,4 @@
--- holes.rs, `Region::new`: questions 1 to 12 of a region, and 21. Assumes nothing.
+-- holes.rs, `Region::new`: questions 1 to 12 and 27 of a region, and 21. Assumes nothing.
 use Prim.Native.Nat.{ℕ, _+_, _-_, _*_, _%_}
 use mathlib.Core.Bool.{Bool, true, false, cond, not, _&&_, _||_}
 use mathlib.Core.List.{List}
@@ -19,7 +19,7 @@ use Rattle.base.specs.Loop.{rounds}
 use Rattle.ring_cross.specs.Meet.{rings-meet}
 use Rattle.error.specs.Refusals.{granted}
 use Rattle.region.specs.Regions.{hole-points, hole-count, no-region, with-hole, with-outer}
-use Rattle.ring_check.specs.Checks.{check-ring}
+use Rattle.ring_check.specs.Checks.{check-door}
 use Rattle.outline.specs.Outlines.{no-outline, stored-outline, check-finite, proper}
 use Rattle.offset.specs.Clear.{is-inside, is-outside, every-vertex}
 
@@ -73,8 +73,8 @@ region-refused r = record { refusal = r; shape = no-region }
 unfoldable pub region-if : Region → Refusal → NewRegion
 region-if r s = cond (granted s) (record { refusal = Granted; shape = r }) (region-refused s)
 
--- ---- a region from numbers: questions 1 to 12. Ring k has `getD lengths k` vertices, one ring after the other; every ring passes 4 to 9
--- before 10 is asked
+-- ---- a region from numbers: questions 1 to 12 and 27. Ring k has `getD lengths k` vertices, one ring after the other; every ring passes
+-- 4 to 9 and 27 before 10 is asked
 
 -- the shape beside a refused ring is empty
 unfoldable pub rings-refused : RegionLoad → Refusal → RegionLoad
@@ -91,7 +91,7 @@ unfoldable pub hole-load-step : List ℕ → List Float → ℕ → RegionLoad �
 hole-load-step lengths ps k s =
     cond (granted (s .refusal))
     (hole-loaded s (drop (2 * s .start) ps) (getD lengths (k + 1) 0)
-    (check-ring 32 (k + 1) (drop (2 * s .start) ps) (getD lengths (k + 1) 0)))
+    (check-door 32 (k + 1) (drop (2 * s .start) ps) (getD lengths (k + 1) 0)))
     s
 
 unfoldable pub outer-loaded : List Float → ℕ → Checked → RegionLoad
@@ -102,7 +102,7 @@ outer-loaded ps n c =
 
 unfoldable pub load-rings : List ℕ → List Float → RegionLoad
 load-rings lengths ps =
-    rounds (hole-load-step lengths ps) (length lengths - 1) (outer-loaded ps (getD lengths 0 0) (check-ring 128 0 ps (getD lengths 0 0)))
+    rounds (hole-load-step lengths ps) (length lengths - 1) (outer-loaded ps (getD lengths 0 0) (check-door 128 0 ps (getD lengths 0 0)))
 
 unfoldable pub region-loaded : RegionLoad → NewRegion
 region-loaded s = cond (granted (s .refusal)) (region-if (s .shape) (check-region (s .shape))) (region-refused (s .refusal))

@@ -93,7 +93,7 @@ pub(crate) fn inset_by<'a>(
     }
 }
 
-// The region of these numbers, ring after ring, to lent output: questions 1 to 12, then 20.
+// The region of these numbers, ring after ring, to lent output: questions 1 to 12 and 27, then 20.
 pub fn region_into<'a>(lengths: &'a [usize], ps: &'a [f64], out: &'a mut [f64]) -> RegionWritten
     ensures answered { λ r. ⌜ r ≡ Told.region-made (Checks.region (now (lengths .entry)) (now (ps .entry))) (now (out .entry)) ⌝ }
     ensures written { λ _. ⌜
@@ -103,7 +103,7 @@ pub fn region_into<'a>(lengths: &'a [usize], ps: &'a [f64], out: &'a mut [f64]) 
     made_into(region_new::new(lengths, ps), out)
 }
 
-// Its inset to lent output: questions 1 to 12, then 13 to 19, then 20.
+// Its inset to lent output: questions 1 to 12 and 27, then 13 to 19, then 20.
 pub fn inset_into<'a>(
     lengths: &'a [usize],
     ps: &'a [f64],

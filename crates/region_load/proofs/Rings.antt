@@ -19,7 +19,7 @@ use Rattle.region.specs.declared.RegionLoad.{RegionLoad}
 use Rattle.base.specs.Loop.{rounds}
 use Rattle.base.proofs.Laws.{next-round, stays-to, still, ends}
 use Rattle.ring.specs.Store.{stored}
-use Rattle.ring_check.specs.Checks.{check-ring}
+use Rattle.ring_check.specs.Checks.{check-door}
 use Rattle.outline.specs.Outlines.{no-outline, stored-outline, outline-refused, outline-of, new-outline}
 use Rattle.region.specs.Regions.{no-region, with-outer, store-hole, count-hole, with-hole}
 use Rattle.region.specs.Checks.{rings-refused, hole-loaded, hole-load-step, outer-loaded, load-rings}
@@ -36,7 +36,7 @@ module _ (lengths : List ℕ) (ps : List Float) (o : Outline) where
   none-loaded n e = rw e refl
 
   module _ (points : List Float) (counts : List ℕ) (k start : ℕ) (so-far : loading k ≡ loaded Granted o points counts k start) where
-    module _ (n : ℕ) (en : n ≡ getD lengths (k + 1) 0) (part : List Float) (ep : part ≡ drop (2 * start) ps) (c : Checked) (ec : c ≡ check-ring 32 (k + 1) part n) where
+    module _ (n : ℕ) (en : n ≡ getD lengths (k + 1) 0) (part : List Float) (ep : part ≡ drop (2 * start) ps) (c : Checked) (ec : c ≡ check-door 32 (k + 1) part n) where
       step : loading (k + 1) ≡ hole-loaded (loaded Granted o points counts k start) part n c
       unfolding loaded hole-load-step granted number values
       step = next-round (hole-load-step lengths ps) k (outer-alone o (getD lengths 0 0)) ∙ rw (so-far, ec, ep, en) refl
@@ -74,9 +74,9 @@ module _ (lengths : List ℕ) (ps : List Float) (n : ℕ) (en : n ≡ getD lengt
   outer-told c true h = rw (← h) refl
   outer-told c false h = rw (← h) refl
 
-  outer-is : outer-loaded ps n (check-ring 128 0 ps n) ≡ record { refusal = o .refusal; shape = with-outer no-region (o .shape); start = n }
+  outer-is : outer-loaded ps n (check-door 128 0 ps n) ≡ record { refusal = o .refusal; shape = with-outer no-region (o .shape); start = n }
   unfolding new-outline
-  outer-is = rw eo (outer-told (check-ring 128 0 ps n) (granted ((check-ring 128 0 ps n) .refusal)) refl)
+  outer-is = rw eo (outer-told (check-door 128 0 ps n) (granted ((check-door 128 0 ps n) .refusal)) refl)
 
   pub outer-passed : granted (o .refusal) ≡ true → load-holes lengths ps (o .shape) ≡ load-rings lengths ps
   unfolding load-holes load-rings outer-alone
@@ -88,9 +88,9 @@ module _ (lengths : List ℕ) (ps : List Float) (n : ℕ) (en : n ≡ getD lengt
       let h : granted (c .refusal) ≡ false = not-taken (granted (c .refusal)) (record { refusal = Granted; shape = stored-outline ps (c .count) (c .back) }) (outline-refused (c .refusal)) refl g in
       rw h refl
 
-  outer-none : granted (o .refusal) ≡ false → outer-loaded ps n (check-ring 128 0 ps n) ≡ no-load (o .refusal) n
+  outer-none : granted (o .refusal) ≡ false → outer-loaded ps n (check-door 128 0 ps n) ≡ no-load (o .refusal) n
   unfolding new-outline
-  outer-none g = rw eo (told-refused (check-ring 128 0 ps n) (ap (λ (z : NewOutline). granted (z .refusal)) (sym eo) ∙ g))
+  outer-none g = rw eo (told-refused (check-door 128 0 ps n) (ap (λ (z : NewOutline). granted (z .refusal)) (sym eo) ∙ g))
 
   pub outer-refused : granted (o .refusal) ≡ false → no-load (o .refusal) n ≡ load-rings lengths ps
   unfolding load-rings no-load hole-load-step

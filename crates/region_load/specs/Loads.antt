@@ -1,5 +1,5 @@
--- The rings of a region from numbers: question 3, then 4 to 9 ring by ring. `load-rings` without question 3 is that of the region's own
--- check. Assumes nothing.
+-- The rings of a region from numbers: question 3, then 4 to 9 and 27 ring by ring. `load-rings` without question 3 is that of the region's
+-- own check. Assumes nothing.
 use Prim.Native.Nat.{ℕ, _-_}
 use mathlib.Core.Bool.{cond}
 use mathlib.Core.List.{List}
@@ -22,15 +22,15 @@ loaded r o points counts k start =
 unfoldable pub no-load : Refusal → ℕ → RegionLoad
 no-load r start = record { refusal = r; shape = no-region; start = start }
 
--- the outer ring, which has passed 4 to 9
+-- the outer ring, which has passed 4 to 9 and 27
 unfoldable pub outer-alone : Outline → ℕ → RegionLoad
 outer-alone o n = record { refusal = Granted; shape = with-outer no-region o; start = n }
 
--- 4 to 9 of each hole after it
+-- 4 to 9 and 27 of each hole after it
 unfoldable pub load-holes : List ℕ → List Float → Outline → RegionLoad
 load-holes lengths ps o = rounds (hole-load-step lengths ps) (length lengths - 1) (outer-alone o (getD lengths 0 0))
 
--- question 3, then 4 to 9 ring by ring, outer first
+-- question 3, then 4 to 9 and 27 ring by ring, outer first
 unfoldable pub load-fitting : List ℕ → List Float → RegionLoad
 load-fitting lengths ps = cond (lengths-fit lengths ps) (load-rings lengths ps) (no-load Lengths 0)
 

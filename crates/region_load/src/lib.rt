@@ -1,4 +1,4 @@
-// The rings of a region from numbers: question 3, and 4 to 9 ring by ring.
+// The rings of a region from numbers: question 3, and 4 to 9 and 27 ring by ring.
 ghost use mathlib.Core.Path.{_≡_};
 ghost use mathlib.Core.Bool.{true, cond};
 ghost use Prim.Native.Nat.{_*_, _≤_};
@@ -107,7 +107,7 @@ pub(crate) fn loaded(
     }
 }
 
-// Questions 4 to 9 of each hole, one ring after the other, beside an outer ring that has passed them. The first refusal ends it: the
+// Questions 4 to 9 and 27 of each hole, one ring after the other, beside an outer ring that has passed them. The first refusal ends it: the
 // shape beside it is empty.
 pub(crate) fn load_holes<'a>(lengths: &'a [usize], ps: &'a [f64], outer: Outline) -> RegionLoad
     requires { ⌜ Checks.lengths-fit (now lengths) (now ps) ≡ true ⌝ }
@@ -123,7 +123,7 @@ pub(crate) fn load_holes<'a>(lengths: &'a [usize], ps: &'a [f64], outer: Outline
         let n = region_given::count_at(lengths, place);
         let from = 2 * start;
         let part = &ps[from..];
-        let c = ring_check::check_ring(32, place, part, n);
+        let c = ring_check::check_door(32, place, part, n);
         let r = c.refusal;
         if !r.granted() {
             let none = outline::store::no_outline();
@@ -149,7 +149,7 @@ pub(crate) fn no_load(r: Refusal, start: usize) -> RegionLoad
     }
 }
 
-// Questions 4 to 9 of the outer ring, then of the holes.
+// Questions 4 to 9 and 27 of the outer ring, then of the holes.
 pub(crate) fn load_fitting<'a>(lengths: &'a [usize], ps: &'a [f64]) -> RegionLoad
     requires { ⌜ Checks.lengths-fit (now lengths) (now ps) ≡ true ⌝ }
     ensures { λ r. ⌜ r ≡ Checks.load-rings (now (lengths .entry)) (now (ps .entry)) ⌝ }
@@ -165,7 +165,7 @@ pub(crate) fn load_fitting<'a>(lengths: &'a [usize], ps: &'a [f64]) -> RegionLoa
     }
 }
 
-// The rings of a region: question 3, then 4 to 9 ring by ring, outer first.
+// The rings of a region: question 3, then 4 to 9 and 27 ring by ring, outer first.
 pub fn load_rings<'a>(lengths: &'a [usize], ps: &'a [f64]) -> RegionLoad
     ensures { λ r. ⌜ r ≡ Loads.load-fitting (now (lengths .entry)) (now (ps .entry)) ⌝ }
 {

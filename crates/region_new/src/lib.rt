@@ -65,7 +65,7 @@ pub(crate) fn region_finite<'a>(lengths: &'a [usize], ps: &'a [f64], r: Refusal)
     }
 }
 
-// The region of these numbers, ring after ring: questions 1 to 12.
+// The region of these numbers, ring after ring: questions 1 to 12 and 27.
 pub fn new<'a>(lengths: &'a [usize], ps: &'a [f64]) -> NewRegion
     ensures is { λ r. ⌜ r ≡ Checks.region (now (lengths .entry)) (now (ps .entry)) ⌝ }
     ensures again { λ r. ⌜ Answers.ProperNewRegion r ⌝ }

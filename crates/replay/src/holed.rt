@@ -39,12 +39,15 @@ fn lengths_from(lengths: &[usize], from: usize, to: usize) -> &[usize] {
     &lengths[..0]
 }
 
-// The region of a count of rings, their lengths and their numbers.
-fn made<'a>(words: &'a [u64], numbers: &'a [f64]) -> NewRegion {
+// The region of a count of rings, their lengths and their numbers: from outside, or handed in as it is.
+fn made<'a>(words: &'a [u64], numbers: &'a [f64], handed: bool) -> NewRegion {
     let rings = parts::field_at(words, 0) as usize;
     let lengths = lengths_of(parts::fields_from(words, 1, words.len()));
     let first = after(1, rings);
     let rest = parts::numbers_from(numbers, first, numbers.len());
+    if handed {
+        return region_stored::stored(lengths_from(&lengths, 0, rings), rest);
+    }
     region_new::new(lengths_from(&lengths, 0, rings), rest)
 }
 
@@ -81,7 +84,7 @@ fn shape_is(answer: &[u64], r: Region) -> bool {
 
 // What a refusal carries is in the first five fields, the region in the rest.
 pub(crate) fn region<'a>(answer: &'a [u64], words: &'a [u64], numbers: &'a [f64]) -> bool {
-    let made = made(words, numbers);
+    let made = made(words, numbers, false);
     let refusal = made.refusal;
     let shape = made.shape;
     let rest = parts::fields_from(answer, 5, answer.len());
@@ -99,10 +102,16 @@ fn inset_is<'a>(answer: &'a [u64], w: InsetWritten, ps: &'a [f64]) -> bool {
 }
 
 // Before the region stands the distance. A region that is refused has no inset.
-pub(crate) fn inset<'a>(answer: &'a [u64], words: &'a [u64], numbers: &'a [f64]) -> bool {
+pub(crate) fn inset<'a>(
+    answer: &'a [u64],
+    words: &'a [u64],
+    numbers: &'a [f64],
+    handed: bool,
+) -> bool {
     let made = made(
         parts::fields_from(words, 1, words.len()),
         parts::numbers_from(numbers, 1, numbers.len()),
+        handed,
     );
     let refusal = made.refusal;
     let shape = made.shape;
@@ -208,6 +217,7 @@ pub(crate) fn within<'a>(answer: &'a [u64], words: &'a [u64], numbers: &'a [f64]
     let made = made(
         parts::fields_from(words, 4, words.len()),
         parts::numbers_from(numbers, 4, numbers.len()),
+        false,
     );
     let refusal = made.refusal;
     let shape = made.shape;

@@ -74,12 +74,13 @@ fn answered<'a>(kind: u64, answer: &'a [u64], words: &'a [u64], numbers: &'a [f6
         7 => kinds::area(answer, numbers),
         8 => offsets::offset(answer, words, numbers),
         9 => holed::region(answer, words, numbers),
-        10 => holed::inset(answer, words, numbers),
+        10 => holed::inset(answer, words, numbers, false),
         11 => holed::within(answer, words, numbers),
         12 => turns::turned(answer, numbers),
         13 => turns::meeting(answer, numbers),
         14 => turns::folded(answer, numbers),
         15 => shapes::pair(answer, words, numbers),
+        16 => holed::inset(answer, words, numbers, true),
         _ => false,
     }
 }
@@ -88,7 +89,7 @@ fn answered<'a>(kind: u64, answer: &'a [u64], words: &'a [u64], numbers: &'a [f6
 fn take_fields<'a>(t: Tally, fields: &'a [u64], numbers: &'a [f64], count: usize) -> Tally {
     let kind = parts::field_at(fields, 0);
     let given = parts::field_at(fields, 1) as usize;
-    if 15 < kind {
+    if 16 < kind {
         return t.with(UNREAD, false);
     }
     if ROOM < given {

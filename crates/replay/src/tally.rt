@@ -1,12 +1,12 @@
 // How many lines were compared and how many differ, by kind.
 use crate::parts;
 
-// The place of lines that cannot be read, after the sixteen kinds. The place after it has all lines.
-pub(crate) const UNREAD: usize = 16;
+// The place of lines that cannot be read, after the seventeen kinds. The place after it has all lines.
+pub(crate) const UNREAD: usize = 17;
 
 pub(crate) struct Tally {
-    pub compared: [u64; 18],
-    pub differ: [u64; 18],
+    pub compared: [u64; 19],
+    pub differ: [u64; 19],
 }
 
 fn one_more(n: u64) -> u64 {
@@ -14,24 +14,24 @@ fn one_more(n: u64) -> u64 {
 }
 
 // One more of a kind, and of all.
-fn counted(counts: [u64; 18], kind: usize) -> [u64; 18] {
+fn counted(counts: [u64; 19], kind: usize) -> [u64; 19] {
     let mut now = counts;
-    if kind < 17 {
+    if kind < 18 {
         now[kind] = one_more(now[kind]);
-        now[17] = one_more(now[17]);
+        now[18] = one_more(now[18]);
     }
     now
 }
 
-fn at(counts: [u64; 18], k: usize) -> u64 {
-    if k < 18 { counts[k] } else { 0 }
+fn at(counts: [u64; 19], k: usize) -> u64 {
+    if k < 19 { counts[k] } else { 0 }
 }
 
 impl Tally {
     pub(crate) fn new() -> Tally {
         Tally {
-            compared: [0; 18],
-            differ: [0; 18],
+            compared: [0; 19],
+            differ: [0; 19],
         }
     }
 
@@ -55,7 +55,7 @@ impl Tally {
         let compared = self.compared;
         let differ = self.differ;
         let mut k = 0usize;
-        while k < 18 {
+        while k < 19 {
             print_name(k);
             print_counts(at(compared, k), at(differ, k));
             k += 1;
@@ -68,12 +68,12 @@ fn print_name(kind: usize) {
     let names: &[u8] =
         b"outline  contains nearest  measures clearanceedge     point    area     offset   ";
     let more: &[u8] =
-        b"region   inset    within   turn     meet     fold     pair     unread   total    ";
+        b"region   inset    within   turn     meet     fold     pair     again    unread   total    ";
     if kind < 9 {
         io::write_all(1, parts::bytes_from(names, 9 * kind, 9 * kind + 9));
         return;
     }
-    if kind < 18 {
+    if kind < 19 {
         io::write_all(1, parts::bytes_from(more, 9 * kind - 81, 9 * kind - 72));
     }
 }

@@ -6,9 +6,10 @@ use mathlib.Core.Bool.{Bool, true, false, cond, not, _&&_, _||_, true≢false, f
 use mathlib.Core.List.{List}
 use borrow.Author.Tests.{not-true, not-false}
 use lib.Dec.{ltb}
-use lib.Ieee.{Float, le, neg}
+use lib.Ieee.{Float, lt, le, neg}
 use Rattle.plane.specs.declared.PlanarPoint.{PlanarPoint}
-use Rattle.plane.specs.Plane.{same}
+use Rattle.plane.specs.Plane.{same, sub}
+use Rattle.plane.specs.Points.{length-of}
 use Rattle.error.specs.declared.Refusal.{Refusal}
 use Rattle.error.specs.declared.Refusal.the-variants.{Granted, Range, Room}
 use Rattle.error.specs.Refusals.{values, number, granted}
@@ -16,8 +17,9 @@ use Rattle.ring.specs.Ring.{vertex-at, edge-end}
 use Rattle.ring.proofs.Vertices.{following-on}
 use Rattle.base.specs.Loop.{rounds}
 use Rattle.base.proofs.Laws.{next-round, stays-to}
-use Rattle.ring_check.specs.Checks.{max-coordinate, beyond, vertex-refusal, range-step, check-range, repeat-step, repeats}
-use Rattle.ring_check.specs.Walks.{passes}
+use Rattle.base.proofs.Tests.{none-yet, found-at, tests-on, test-fails}
+use Rattle.ring_check.specs.Checks.{max-coordinate, hairline-length, beyond, vertex-refusal, range-step, check-range, repeat-step, repeats, short-edge, hairline-step, hairline}
+use Rattle.ring_check.specs.Walks.{passes, wide, wide-step, all-wide}
 use Rattle.ring_check.proofs.Reach.{in-reach-is}
 
 -- ---- a number beyond the range
@@ -69,16 +71,44 @@ module _ (room ring n : ℕ) (ps : List Float) where
         let g : granted (vertex-refusal room ring n k v) ≡ false = not-granted (sym p ∙ not-true b t) in
         q ∙ sym (stays-to (range-step room ring ps n) Granted (vertex-refusal room ring n k v) (k + 1) n (omega arith) step (λ m. rw g refl))
 
--- ---- neighbours that are equal
+-- ---- an edge's test, which a walk over the edges asks
 
-module _ (ps : List Float) (n k : ℕ) (v w : PlanarPoint) (b : Bool) (e : v ≡ vertex-at ps k) (f : w ≡ edge-end ps n k) (g : b ≡ same v w) (so-far : rounds (repeat-step ps n) k false ≡ false) where
-  pub repeats-not : b ≡ false → rounds (repeat-step ps n) (k + 1) false ≡ false
-  unfolding repeat-step
-  repeats-not t = next-round (repeat-step ps n) k false ∙ rw (so-far, ← e, ← f, ← g, t) refl
+module _ (ps : List Float) (n k : ℕ) (v w : PlanarPoint) (e : v ≡ vertex-at ps k) (f : w ≡ edge-end ps n k) where
+  asked : (test : PlanarPoint → PlanarPoint → Bool) {b c : Bool} → b ≡ test v w → b ≡ c → test (vertex-at ps k) (edge-end ps n k) ≡ c
+  asked test g t = ap (test (vertex-at ps k)) (sym f) ∙ ap (λ (z : PlanarPoint). test z w) (sym e) ∙ sym g ∙ t
 
-  pub repeats-here : k < n → b ≡ true → true ≡ repeats ps n
-  unfolding repeats repeat-step
-  repeats-here l t = sym (stays-to (repeat-step ps n) false true (k + 1) n (omega arith) (next-round (repeat-step ps n) k false ∙ rw (so-far, ← e, ← f, ← g, t) refl) (λ m. refl))
+  abbrev thin : PlanarPoint → PlanarPoint → Bool
+  thin a b = lt (length-of (sub b a)) hairline-length
+
+  module _ (b : Bool) where
+    -- neighbours that are equal
+    pub repeats-not : b ≡ same v w → rounds (repeat-step ps n) k false ≡ false → b ≡ false → rounds (repeat-step ps n) (k + 1) false ≡ false
+    unfolding repeat-step
+    repeats-not g none t = none-yet (repeat-step ps n) (λ j. same (vertex-at ps j) (edge-end ps n j)) (λ j s. refl) k none (asked same g t)
+
+    pub repeats-here : b ≡ same v w → k < n → b ≡ true → true ≡ repeats ps n
+    unfolding repeats repeat-step
+    repeats-here g l t = sym (found-at (repeat-step ps n) (λ j. same (vertex-at ps j) (edge-end ps n j)) (λ j s. refl) n k l (asked same g t))
+
+    -- hairlines
+    pub hairline-not : b ≡ thin v w → rounds (hairline-step ps n) k false ≡ false → b ≡ false → rounds (hairline-step ps n) (k + 1) false ≡ false
+    unfolding hairline-step short-edge
+    hairline-not g none t = none-yet (hairline-step ps n) (short-edge ps n) (λ j s. refl) k none (asked thin g t)
+
+    pub hairline-here : b ≡ thin v w → k < n → b ≡ true → true ≡ hairline ps n
+    unfolding hairline hairline-step short-edge
+    hairline-here g l t = sym (found-at (hairline-step ps n) (short-edge ps n) (λ j s. refl) n k l (asked thin g t))
+
+    -- edges that are all wide
+    pub wide-on : b ≡ wide v w → rounds (wide-step ps n) k true ≡ true → not b ≡ false → rounds (wide-step ps n) (k + 1) true ≡ true
+    unfolding wide-step
+    wide-on g all t =
+        tests-on (wide-step ps n) (λ j. wide (vertex-at ps j) (edge-end ps n j)) (λ j s. refl) n k all (asked wide g (not-false b t))
+
+    pub wide-fails : b ≡ wide v w → rounds (wide-step ps n) k true ≡ true → k < n → not b ≡ true → false ≡ all-wide ps n
+    unfolding all-wide wide-step
+    wide-fails g all l t =
+        sym (test-fails (wide-step ps n) (λ j. wide (vertex-at ps j) (edge-end ps n j)) (λ j s. refl) n k all l (asked wide g (not-true b t)))
 
 -- the next edge starts where edge k ends
 pub starts : (ps : List Float) (n k : ℕ) (w : PlanarPoint) → w ≡ edge-end ps n k → k + 1 < n → w ≡ vertex-at ps (k + 1)

@@ -9,7 +9,7 @@ use lib.Dec.{ltb}
 use lib.Ieee.{Float, lt}
 use Rattle.plane.specs.declared.PlanarPoint.{PlanarPoint}
 use Rattle.error.specs.declared.Refusal.{Refusal}
-use Rattle.error.specs.declared.Refusal.the-variants.{Granted, Few, Repeated, Flat}
+use Rattle.error.specs.declared.Refusal.the-variants.{Granted, Few, Repeated, Flat, Hairline}
 use Rattle.ring_check.specs.declared.Checked.{Checked}
 use Rattle.ring_cross.specs.declared.Crossing.{Crossing}
 use Rattle.ring_cross.specs.declared.Crossing.the-variants.{Simple, Edges}
@@ -19,7 +19,8 @@ use Rattle.plane.specs.Plane.{same}
 use Rattle.ring.specs.Ring.{vertex-at}
 use Rattle.ring_measure.specs.Measures.{signed-area, span}
 use Rattle.ring_cross.specs.Simple.{check-simple}
-use Rattle.ring_check.specs.Checks.{kept, beyond, vertex-refusal, range-step, check-range, repeats, flat, crossed, refused, passed, check-reversed, check-area, check-shape, check-in-range, check-kept, check-ring}
+use Rattle.ring_check.specs.Checks
+use Rattle.ring_check.specs.Checks.{kept, beyond, vertex-refusal, range-step, check-range, repeats, hairline, flat, crossed, refused, passed, check-reversed, check-area, check-shape, check-in-range, check-kept, check-by}
 use Rattle.base.proofs.Laws.{rounds-keep}
 use Rattle.base.proofs.Choices.{by-cases, by-test}
 use Rattle.base.proofs.Choices.{both}
@@ -61,6 +62,7 @@ range-fits room ring ps n =
 
 pub record Passed (room : ℕ) (ps : List Float) (n m : ℕ) (back : Bool) : Type 0 where
   pub three : 3 ≤ m
+  pub left : m ≡ Checks.kept ps n
   pub kept : m ≤ n
   pub fits : m ≤ room
   pub within : (k : ℕ) → k < m → Within (vertex-at ps k)
@@ -79,38 +81,40 @@ crossed-simple ring n back Simple q = refl
 crossed-simple ring n true (Edges i j) q = absurd (false≢true q)
 crossed-simple ring n false (Edges i j) q = absurd (false≢true q)
 
-module _ (room ring : ℕ) (ps : List Float) (n m : ℕ) (three : 3 ≤ m) (less : m ≤ n) (fit : m ≤ room) (near : (k : ℕ) → k < m → Within (vertex-at ps k)) where
+module _ (door : Bool) (room ring : ℕ) (ps : List Float) (n m : ℕ) (left : m ≡ kept ps n) (three : 3 ≤ m) (less : m ≤ n) (fit : m ≤ room) (near : (k : ℕ) → k < m → Within (vertex-at ps k)) where
   reversed-sound : (back : Bool) → Sound room ps n (check-reversed ring ps m back)
   unfolding check-reversed passed
   reversed-sound back =
       let r : Refusal = crossed ring m back (check-simple ps m back) in
       by-test (Sound room ps n) (granted r)
-      (λ h. record { sound = λ q. record { three = three; kept = less; fits = fit; within = near; simple = crossed-simple ring m back (check-simple ps m back) h } })
+      (λ h. record { sound = λ q. record { three = three; left = left; kept = less; fits = fit; within = near; simple = crossed-simple ring m back (check-simple ps m back) h } })
       (λ h. refused-sound room ps n r h)
 
-  shape-sound : Sound room ps n (check-shape ring ps m)
+  shape-sound : Sound room ps n (check-shape door ring ps m)
   unfolding check-shape check-area granted number values
   shape-sound =
       both (Sound room ps n) (repeats ps m) (refused-sound room ps n (Repeated ring) refl)
-      (both (Sound room ps n) (flat (signed-area ps m) (span ps m)) (refused-sound room ps n (Flat ring) refl) (reversed-sound (lt (signed-area ps m) zero-float)))
+      (both (Sound room ps n) (door && hairline ps m) (refused-sound room ps n (Hairline ring) refl)
+      (both (Sound room ps n) (flat (signed-area ps m) (span ps m)) (refused-sound room ps n (Flat ring) refl) (reversed-sound (lt (signed-area ps m) zero-float))))
 
-kept-sound : (room ring : ℕ) (ps : List Float) (n m : ℕ) → m ≤ n → Sound room ps n (check-kept room ring ps m)
+kept-sound : (door : Bool) (room ring : ℕ) (ps : List Float) (n m : ℕ) → m ≡ kept ps n → m ≤ n → Sound room ps n (check-kept door room ring ps m)
 unfolding check-kept check-in-range granted number values
-kept-sound room ring ps n m less =
+kept-sound door room ring ps n m left less =
     let r : Refusal = check-range room ring ps m in
     by-test (Sound room ps n) (ltb m 3) (λ h. refused-sound room ps n (Few ring m) refl)
     (λ h. by-test (Sound room ps n) (granted r)
     (λ g.
     let a : 3 ≤ m = ltb-false m 3 h in
     let all : (i : ℕ) → i < m → (i < room) × Within (vertex-at ps i) = range-fits room ring ps m .all g in
-    shape-sound room ring ps n m a less (omega (arith, all (m - 1) (omega arith) .0)) (λ k l. all k l .1))
+    shape-sound door room ring ps n m left a less (omega (arith, all (m - 1) (omega arith) .0)) (λ k l. all k l .1))
     (λ g. refused-sound room ps n r g))
 
 kept-less : (ps : List Float) (n : ℕ) → kept ps n ≤ n
 unfolding kept
 kept-less ps n = both (λ (m : ℕ). m ≤ n) (ltb 1 n && same (vertex-at ps (n - 1)) (vertex-at ps 0)) (omega arith) (omega arith)
 
-pub check-sound : (room ring : ℕ) (ps : List Float) (n : ℕ) → granted ((check-ring room ring ps n) .refusal) ≡ true
-    → Passed room ps n ((check-ring room ring ps n) .count) ((check-ring room ring ps n) .back)
-unfolding check-ring
-check-sound room ring ps n = kept-sound room ring ps n (kept ps n) (kept-less ps n) .sound
+-- at the door and within
+pub check-sound : (door : Bool) (room ring : ℕ) (ps : List Float) (n : ℕ) → granted ((check-by door room ring ps n) .refusal) ≡ true
+    → Passed room ps n ((check-by door room ring ps n) .count) ((check-by door room ring ps n) .back)
+unfolding check-by
+check-sound door room ring ps n = kept-sound door room ring ps n (kept ps n) refl (kept-less ps n) .sound

@@ -1,16 +1,18 @@
--- polygon.rs, the check of a ring: questions 4 to 9, for a room, of the ring of this number. Assumes nothing.
-use mathlib.Core.Bool.{Bool, false, cond, not, _&&_, _||_}
+-- polygon.rs, the check of a ring: questions 4 to 9, for a room, of the ring of this number; and the same check at the door, where 27 is
+-- asked, too (R-7). Assumes nothing.
+use mathlib.Core.Bool.{Bool, true, false, cond, not, _&&_, _||_}
 use lib.Ieee.{Float, binary64, lt, le, ofBits}
 use Prim.Native.Nat.{ℕ, _-_}
 use mathlib.Core.List.{List}
 use lib.Dec.{ltb}
 use Rattle.plane.specs.declared.PlanarPoint.{PlanarPoint}
 use Rattle.error.specs.declared.Refusal.{Refusal}
-use Rattle.error.specs.declared.Refusal.the-variants.{Granted, Range, Room, Crossed, Flat, Repeated, Few}
+use Rattle.error.specs.declared.Refusal.the-variants.{Granted, Range, Room, Crossed, Flat, Repeated, Few, Hairline}
 use Rattle.ring_cross.specs.declared.Crossing.{Crossing}
 use Rattle.ring_cross.specs.declared.Crossing.the-variants.{Simple, Edges}
 use Rattle.ring_check.specs.declared.Checked.{Checked}
-use Rattle.plane.specs.Plane.{same}
+use Rattle.plane.specs.Plane.{same, sub}
+use Rattle.plane.specs.Points.{length-of}
 use Rattle.ring.specs.Ring.{vertex-at, edge-end}
 use Rattle.ring_measure.specs.Measures.{span, signed-area}
 use Rattle.math.specs.Number.{abs, mul, zero-float}
@@ -25,6 +27,10 @@ max-coordinate = ofBits binary64 0x41cdcd6500000000
 -- the double nearest to 1e-12
 abbrev pub min-relative-area : Float
 min-relative-area = ofBits binary64 0x3d719799812dea11
+
+-- the double nearest to 0.000001
+abbrev pub hairline-length : Float
+hairline-length = ofBits binary64 0x3eb0c6f7a0b5ed8d
 
 -- one closing repeat is dropped
 unfoldable pub kept : List Float → ℕ → ℕ
@@ -51,6 +57,17 @@ repeat-step ps n k s = s || same (vertex-at ps k) (edge-end ps n k)
 unfoldable pub repeats : List Float → ℕ → Bool
 repeats ps n = rounds (repeat-step ps n) n false
 
+-- R-7: edge k is shorter than 0.000001 by the length function
+unfoldable pub short-edge : List Float → ℕ → ℕ → Bool
+short-edge ps n k = lt (length-of (sub (edge-end ps n k) (vertex-at ps k))) hairline-length
+
+unfoldable pub hairline-step : List Float → ℕ → ℕ → Bool → Bool
+hairline-step ps n k s = s || short-edge ps n k
+
+-- question 27: some edge of the ring, the closing one included, is that short
+unfoldable pub hairline : List Float → ℕ → Bool
+hairline ps n = rounds (hairline-step ps n) n false
+
 unfoldable pub flat : Float → Float → Bool
 flat signed s = le (abs signed) (mul (mul min-relative-area s) s)
 
@@ -71,20 +88,32 @@ check-reversed ring ps n back = passed (crossed ring n back (check-simple ps n b
 unfoldable pub check-area : ℕ → List Float → ℕ → Float → Checked
 check-area ring ps n signed = cond (flat signed (span ps n)) (refused (Flat ring)) (check-reversed ring ps n (lt signed zero-float))
 
-unfoldable pub check-shape : ℕ → List Float → ℕ → Checked
-check-shape ring ps n = cond (repeats ps n) (refused (Repeated ring)) (check-area ring ps n (signed-area ps n))
+-- 27 is asked after 7 and before 8, and at the door alone
+unfoldable pub check-shape : Bool → ℕ → List Float → ℕ → Checked
+check-shape door ring ps n =
+    cond (repeats ps n) (refused (Repeated ring))
+    (cond (door && hairline ps n) (refused (Hairline ring)) (check-area ring ps n (signed-area ps n)))
 
-unfoldable pub check-in-range : ℕ → List Float → ℕ → Refusal → Checked
-check-in-range ring ps n r = cond (granted r) (check-shape ring ps n) (refused r)
+unfoldable pub check-in-range : Bool → ℕ → List Float → ℕ → Refusal → Checked
+check-in-range door ring ps n r = cond (granted r) (check-shape door ring ps n) (refused r)
 
-unfoldable pub check-kept : ℕ → ℕ → List Float → ℕ → Checked
-check-kept room ring ps n = cond (ltb n 3) (refused (Few ring n)) (check-in-range ring ps n (check-range room ring ps n))
+unfoldable pub check-kept : Bool → ℕ → ℕ → List Float → ℕ → Checked
+check-kept door room ring ps n =
+    cond (ltb n 3) (refused (Few ring n)) (check-in-range door ring ps n (check-range room ring ps n))
 
-unfoldable pub check-ring : ℕ → ℕ → List Float → ℕ → Checked
-check-ring room ring ps n = check-kept room ring ps (kept ps n)
+unfoldable pub check-by : Bool → ℕ → ℕ → List Float → ℕ → Checked
+check-by door room ring ps n = check-kept door room ring ps (kept ps n)
+
+-- 4 to 9 alone: a piece of an offset, and a run that is cut from a drawing
+abbrev pub check-ring : ℕ → ℕ → List Float → ℕ → Checked
+check-ring room ring ps n = check-by false room ring ps n
+
+-- 4 to 7, 27, 8 and 9: a ring that comes in from outside
+abbrev pub check-door : ℕ → ℕ → List Float → ℕ → Checked
+check-door room ring ps n = check-by true room ring ps n
 
 -- opens every definition above, for a proof that computes with all of them
 unfoldable pub open-checks : Unit {0}
-unfolding kept beyond vertex-refusal range-step check-range repeat-step repeats flat crossed refused passed check-reversed check-area
-    check-shape check-in-range check-kept check-ring
+unfolding kept beyond vertex-refusal range-step check-range repeat-step repeats short-edge hairline-step hairline flat crossed refused
+    passed check-reversed check-area check-shape check-in-range check-kept check-by
 open-checks = tt

@@ -1,2 +1,4 @@
 pub mod Checks
 pub mod Walks
+pub mod Door
+pub mod DoorExamples

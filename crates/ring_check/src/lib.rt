@@ -1,6 +1,10 @@
-// The check of a ring: questions 4 to 9. `room` is how many vertices there is room for, `index` the ring's number.
+// The check of a ring: questions 4 to 9, and at the door, where a ring comes in from outside, 27 between 7 and 8. `room` is how many
+// vertices there is room for, `index` the ring's number.
 ghost use mathlib.Core.Path.{_≡_};
 ghost use mathlib.Core.Bool.{cond};
+ghost use lib.Ieee.{lt};
+ghost use Rattle.plane.specs.Plane;
+ghost use Rattle.plane.specs.Points;
 ghost use Rattle.ring_check.specs.Checks;
 ghost use Rattle.ring_check.specs.Walks;
 use error::Refusal;
@@ -17,6 +21,9 @@ pub struct Checked {
 pub const MAX_COORDINATE: f64 = 1e9;
 
 const MIN_RELATIVE_AREA: f64 = 1e-12;
+
+// An edge that is shorter is a hairline.
+const HAIRLINE: f64 = 1e-6;
 
 // a where the test holds, else b.
 pub(crate) fn choose(test: bool, a: Checked, b: Checked) -> Checked
@@ -95,6 +102,88 @@ pub(crate) fn repeats(ps: &[f64], n: usize) -> bool
     false
 }
 
+// Whether a number reaches the least length, up or down. A NaN does not.
+pub(crate) fn reaches(x: f64) -> bool
+    ensures { λ r. ⌜ r ≡ Walks.reaches x ⌝ }
+{
+    if HAIRLINE <= x {
+        return true;
+    }
+    x <= -HAIRLINE
+}
+
+// Whether the edge from a to b reaches it east or north: then its ends differ, and it is no hairline.
+pub(crate) fn wide(a: PlanarPoint, b: PlanarPoint) -> bool
+    ensures { λ r. ⌜ r ≡ Walks.wide a b ⌝ }
+{
+    if reaches(b.east - a.east) {
+        return true;
+    }
+    reaches(b.north - a.north)
+}
+
+// Whether every edge does.
+pub(crate) fn all_wide(ps: &[f64], n: usize) -> bool
+    ensures { λ r. ⌜ r ≡ Walks.all-wide (now (ps .entry)) n ⌝ }
+{
+    let mut a = ring::vertex_at(ps, 0);
+    let mut k = 0;
+    while k < n {
+        let b = ring::edge_end(ps, n, k);
+        if !wide(a, b) {
+            return false;
+        }
+        a = b;
+        k += 1;
+    }
+    true
+}
+
+// Whether the edge from a to b is a hairline. A root is taken only where the width does not tell.
+pub(crate) fn short(a: PlanarPoint, b: PlanarPoint) -> bool
+    ensures { λ r. ⌜ r ≡ lt (Points.length-of (Plane.sub b a)) Checks.hairline-length ⌝ }
+{
+    if wide(a, b) {
+        false
+    } else {
+        plane::length_of(plane::sub(b, a)) < HAIRLINE
+    }
+}
+
+// Whether some edge, the closing one included, is a hairline.
+pub(crate) fn hairline(ps: &[f64], n: usize) -> bool
+    ensures { λ r. ⌜ r ≡ Checks.hairline (now (ps .entry)) n ⌝ }
+{
+    let mut a = ring::vertex_at(ps, 0);
+    let mut k = 0;
+    while k < n {
+        let b = ring::edge_end(ps, n, k);
+        if short(a, b) {
+            return true;
+        }
+        a = b;
+        k += 1;
+    }
+    false
+}
+
+// Questions 7 and, at the door, 27. Neither is walked where every edge is wide.
+pub(crate) fn edge_refusal(door: bool, index: usize, ps: &[f64], n: usize) -> Refusal
+    ensures { λ r. ⌜ r ≡ Walks.edge-refusal door index (now (ps .entry)) n ⌝ }
+{
+    if all_wide(ps, n) {
+        return Refusal::Granted;
+    }
+    if repeats(ps, n) {
+        return Refusal::Repeated(index);
+    }
+    if door {
+        error::choose(hairline(ps, n), Refusal::Hairline(index), Refusal::Granted)
+    } else {
+        Refusal::Granted
+    }
+}
+
 // Whether the area is nothing beside the square of the span s.
 pub(crate) fn flat(signed: f64, s: f64) -> bool
     ensures { λ r. ⌜ r ≡ Checks.flat signed s ⌝ }
@@ -162,38 +251,53 @@ pub(crate) fn check_area(index: usize, ps: &[f64], n: usize, signed: f64) -> Che
     }
 }
 
-pub(crate) fn check_shape(index: usize, ps: &[f64], n: usize) -> Checked
-    ensures { λ r. ⌜ r ≡ Checks.check-shape index (now (ps .entry)) n ⌝ }
+pub(crate) fn check_shape(door: bool, index: usize, ps: &[f64], n: usize) -> Checked
+    ensures { λ r. ⌜ r ≡ Checks.check-shape door index (now (ps .entry)) n ⌝ }
 {
-    if repeats(ps, n) {
-        refused(Refusal::Repeated(index))
-    } else {
-        check_area(index, ps, n, ring_measure::signed_area(ps, n))
-    }
-}
-
-pub(crate) fn check_in_range(index: usize, ps: &[f64], n: usize, r: Refusal) -> Checked
-    ensures { λ x. ⌜ x ≡ Checks.check-in-range index (now (ps .entry)) n r ⌝ }
-{
+    let r = edge_refusal(door, index, ps, n);
     if r.granted() {
-        check_shape(index, ps, n)
+        check_area(index, ps, n, ring_measure::signed_area(ps, n))
     } else {
         refused(r)
     }
 }
 
-pub(crate) fn check_kept(room: usize, index: usize, ps: &[f64], n: usize) -> Checked
-    ensures { λ r. ⌜ r ≡ Checks.check-kept room index (now (ps .entry)) n ⌝ }
+pub(crate) fn check_in_range(door: bool, index: usize, ps: &[f64], n: usize, r: Refusal) -> Checked
+    ensures { λ x. ⌜ x ≡ Checks.check-in-range door index (now (ps .entry)) n r ⌝ }
+{
+    if r.granted() {
+        check_shape(door, index, ps, n)
+    } else {
+        refused(r)
+    }
+}
+
+pub(crate) fn check_kept(door: bool, room: usize, index: usize, ps: &[f64], n: usize) -> Checked
+    ensures { λ r. ⌜ r ≡ Checks.check-kept door room index (now (ps .entry)) n ⌝ }
 {
     if n < 3 {
         refused(Refusal::Few(index, n))
     } else {
-        check_in_range(index, ps, n, check_range(room, index, ps, n))
+        check_in_range(door, index, ps, n, check_range(room, index, ps, n))
     }
 }
 
+pub(crate) fn check_by(door: bool, room: usize, index: usize, ps: &[f64], n: usize) -> Checked
+    ensures { λ r. ⌜ r ≡ Checks.check-by door room index (now (ps .entry)) n ⌝ }
+{
+    check_kept(door, room, index, ps, kept(ps, n))
+}
+
+// Questions 4 to 9 alone: of a piece of an offset, or of a run that is cut from a drawing.
 pub fn check_ring(room: usize, index: usize, ps: &[f64], n: usize) -> Checked
     ensures { λ r. ⌜ r ≡ Checks.check-ring room index (now (ps .entry)) n ⌝ }
 {
-    check_kept(room, index, ps, kept(ps, n))
+    check_by(false, room, index, ps, n)
+}
+
+// The door: questions 4 to 7, 27, 8 and 9 of a ring that comes in from outside.
+pub fn check_door(room: usize, index: usize, ps: &[f64], n: usize) -> Checked
+    ensures { λ r. ⌜ r ≡ Checks.check-door room index (now (ps .entry)) n ⌝ }
+{
+    check_by(true, room, index, ps, n)
 }

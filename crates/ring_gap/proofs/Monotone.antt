@@ -1,19 +1,19 @@
 -- Rounded sums and products keep the order: "x is not below y", `lt x y ≡ false`, holds of any two floats where one is a NaN. Assumes nothing.
 use Prim.Native.Nat.{ℕ, zero, suc, _+_, _-_, _*_, _^_, _≤_, _<_, zero-le}
-use native.Mathlib.Nat.{le-trans, le-of-eq, mul-pos, mul-comm, mul-assoc, mul-one, mul-le-mul-right, add-comm, zero-mul}
+use native.Mathlib.Nat.{le-trans, le-of-eq, mul-pos, mul-assoc, mul-one, mul-le-mul-right, add-comm, zero-mul}
 use native.Mathlib.Omega.{arith}
 use mathlib.Core.Path.{_≡_, refl, sym, ap, _∙_, subst}
 use mathlib.Core.Bool.{Bool, true, false, not, cond, _&&_, Bool·beq, true≢false, false≢true}
 use borrow.Author.Tests.{ltb-true, ltb-false, le-ltb}
 use lib.Dec.{T, ltb, eqb}
 use lib.IntN.{ℤ, pos}
-use lib.Pow.{pow-pos}
 use lib.Ieee.{Float, nan, inf, fin, Format, binary64, up, down, unlike, below, level, odd, units, round, sum, neg, add, sub, mul, lt, le, eq, isNan}
-use lib.Ieee.Exact.{HasValue, round-exact}
+use lib.Ieee.Exact.{HasValue}
 use lib.Ieee.Fits.{round-is, up-pos, down-pos}
 use lib.Ieee.Order.{round-mono}
 use Rattle.hypotenuse.proofs.Poly.{poly}
 use Rattle.math.proofs.Swap.{add-swap}
+use Rattle.math.proofs.Differences.{round-neg, no-factor, zero-value, no-value}
 use Rattle.math.proofs.Order.{lt-nan}
 use Rattle.math.proofs.Laws.{lt-infinity, or-le}
 
@@ -49,18 +49,6 @@ lt-neg (fin s m e) (inf false) = refl
 lt-neg (fin s m e) (inf true) = refl
 lt-neg (fin s m e) (fin t n d) = below-neg s t (m * up e * down d) (n * up d * down e)
 
-units-neg : (f : Format) (q k : ℕ) → units f true q k ≡ neg (units f false q k)
-unfolding units odd neg
-units-neg f q k = go (ltb (q * 2 ^ k) (2 ^ (lib.Ieee.low f + suc (lib.Ieee.emax f)))) q
-  where
-    go : (b : Bool) (q : ℕ) → cond b (odd (suc (lib.Ieee.prec f)) true q k (lib.Ieee.low f)) (inf true) ≡ neg (cond b (odd (suc (lib.Ieee.prec f)) false q k (lib.Ieee.low f)) (inf false))
-    go false q = refl
-    go true zero = refl
-    go true (suc q) = refl
-
-pub round-neg : (a c : ℕ) → round binary64 true a c ≡ neg (round binary64 false a c)
-round-neg a c = round-is binary64 true a c ∙ units-neg binary64 _ _ ∙ ap neg (sym (round-is binary64 false a c))
-
 -- ---- a rounded fraction has its sign
 pub data Signed (s : Bool) (x : Float) : Type 0 where
   endless : x ≡ inf s → Signed s x
@@ -84,24 +72,13 @@ up-not-below-down x y (endless e) w = rw e (lt-infinity y)
 up-not-below-down x y (number m e p) (endless q) = rw q (not-below-bottom x)
 up-not-below-down x y (number m e p) (number n d q) = rw (p, q) refl
 
-no-factor : (x c : ℕ) → 0 < c → x * c ≡ 0 → x ≡ 0
-no-factor zero c C h = refl
-no-factor (suc x) zero C h = absurd (omega arith)
-no-factor (suc x) (suc c) C h = absurd (omega arith)
-
-zero-value : (s : Bool) (c : ℕ) → 0 < c → HasValue (round binary64 s 0 c) s 0 c
-zero-value s c C = round-exact binary64 s 0 c 0 0 C (lib.Pow.pow-pos 53) (lib.Pow.pow-pos 2098) (simp (zero-mul))
-
 zeros-level : (x y : Float) (c d : ℕ) → 0 < c → 0 < d → HasValue x true 0 c → HasValue y false 0 d → lt x y ≡ false
 unfolding lt
 zeros-level nan y c d C D v w = absurd v
 zeros-level (inf s) y c d C D v w = absurd v
 zeros-level (fin s m e) nan c d C D v w = absurd w
 zeros-level (fin s m e) (inf t) c d C D v w = absurd w
-zeros-level (fin s m e) (fin t n g) c d C D v w = rw (v .0, w .0, none m e c C (v .1), none n g d D (w .1), zero-mul (down g), zero-mul (down e)) refl
-  where
-    none : (m : ℕ) (e : ℤ) (c : ℕ) → 0 < c → m * up e * c ≡ 0 * down e → m * up e ≡ 0
-    none m e c C h = no-factor (m * up e) c C (h ∙ zero-mul (down e))
+zeros-level (fin s m e) (fin t n g) c d C D v w = rw (v .0, w .0, no-value m e c C (v .1), no-value n g d D (w .1), zero-mul (down g), zero-mul (down e)) refl
 
 -- ---- what is at least another is not below it
 pub is-true : (b : Bool) → T b → b ≡ true

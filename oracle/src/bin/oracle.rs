@@ -1,18 +1,19 @@
 //! Job lines on standard input, answer lines on standard output.
 //!
-//! `oracle [--hypot exact|std] [--turns exact|rounded] [--region] [--full | --tally]`
+//! `oracle [--hypot exact|std] [--turns exact|rounded] [--hairlines refuse|pass] [--region]
+//! [--full | --tally]`
 
 use std::io::{self, BufWriter, Write};
 use std::process::ExitCode;
 
-use oracle::answer::{answer_line_by, Single};
+use oracle::answer::{answer_line_by, pass_hairlines, Single};
 use oracle::hypot;
 use oracle::lines::next_line;
 use oracle::tally::Tally;
 use oracle::turns;
 
-const USAGE: &str =
-    "usage: oracle [--hypot exact|std] [--turns exact|rounded] [--region] [--full | --tally]";
+const USAGE: &str = "usage: oracle [--hypot exact|std] [--turns exact|rounded] \
+    [--hairlines refuse|pass] [--region] [--full | --tally]";
 
 enum Mode {
     Plain,
@@ -36,6 +37,11 @@ fn choice() -> Option<(Mode, Single)> {
             "--turns" => turns::use_rounded(match words.next()?.as_str() {
                 "exact" => false,
                 "rounded" => true,
+                _ => return None,
+            }),
+            "--hairlines" => pass_hairlines(match words.next()?.as_str() {
+                "refuse" => false,
+                "pass" => true,
                 _ => return None,
             }),
             _ => return None,

@@ -1,16 +1,17 @@
 //! Questions about outlines, regions, points or pairs of rings from a seed, each
 //! with the reference's answer.
 //!
-//! `outlines SEED COUNT [--offsets | --regions | --turns | --pairs | --clearances] [--tally]`
+//! `outlines SEED COUNT [--offsets | --regions | --again | --turns | --pairs | --clearances]
+//! [--tally]`
 
 use std::io::{self, BufWriter, Write};
 use std::process::ExitCode;
 
-use oracle::generate::{clearance, offset, pair, question, region, turning};
+use oracle::generate::{again, clearance, offset, pair, question, region, turning};
 use oracle::outlines::{Question, Tally};
 
 const USAGE: &str = "usage: outlines SEED COUNT \
-    [--offsets | --regions | --turns | --pairs | --clearances] [--tally]";
+    [--offsets | --regions | --again | --turns | --pairs | --clearances] [--tally]";
 
 struct Load {
     seed: u64,
@@ -27,6 +28,7 @@ fn load() -> Option<Load> {
         match word.as_str() {
             "--offsets" => draw = offset,
             "--regions" => draw = region,
+            "--again" => draw = again,
             "--turns" => draw = turning,
             "--pairs" => draw = pair,
             "--clearances" => draw = clearance,

@@ -188,7 +188,8 @@ pub fn flat(draw: &mut Draw, _: usize) -> Vec<u8> {
         let long = draw.whole(1, 40) as f64;
         let high = 2.0 * 1e-12 * long;
         let high = f64::from_bits(high.to_bits().wrapping_add_signed(draw.whole(-2, 2)));
-        vec![[0.0, 0.0], [long, 0.0], [draw.whole(0, 1) as f64, high]]
+        let east = draw.pick(&[0.0, 1.0, long / 2.0, long / 2.0]);
+        vec![[0.0, 0.0], [long, 0.0], [east, high]]
     };
     alone_or_hole(draw, ring, 40.0)
 }

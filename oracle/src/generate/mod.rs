@@ -1,8 +1,10 @@
 //! A seeded load of job lines that reaches every refusal.
 
+mod again_questions;
 mod broken;
 mod clearance_questions;
 mod door;
+mod hairlines;
 mod known;
 mod offsets;
 mod outlines;
@@ -15,6 +17,7 @@ mod shape;
 mod slivers;
 mod turn_questions;
 
+pub use again_questions::again;
 pub use clearance_questions::clearance;
 pub use offsets::offset;
 pub use pair_questions::pair;
@@ -100,6 +103,8 @@ const FAMILIES: &[Family] = &[
     family(8, 0, "joined-holes", rare::joined_holes),
     family(40, 30, "known", known::known),
     family(60, 40, "slivers", slivers::slivers),
+    family(60, 60, "hairline", hairlines::hairline),
+    family(20, 20, "chamfer", hairlines::chamfer),
 ];
 
 /// Names of the families.

@@ -4,11 +4,11 @@ use super::shape::{
     self, compass, dress, mirror, moved, rectangle, reorder, scale, shift, square, turn, Point,
     Ring,
 };
-use super::{door, outlines, SMALL};
+use super::{door, hairlines, outlines, SMALL};
 use crate::answer::ROOM;
 use crate::draw::Draw;
 use crate::job::Job;
-use crate::outlines::{new_outline, numbers_of, Question, Shape};
+use crate::outlines::{handed_outline, numbers_of, Question, Shape};
 
 /// Numbers that are not finite.
 pub(super) fn not_finite(draw: &mut Draw) -> f64 {
@@ -62,6 +62,8 @@ fn of_load(draw: &mut Draw) -> Vec<f64> {
         door::flat,
         door::crossed,
         door::crossed,
+        hairlines::hairline,
+        hairlines::hairline,
     ];
     let families = if draw.once_in(2) { sound } else { faulty };
     let family = draw.pick(families);
@@ -82,14 +84,14 @@ fn few(draw: &mut Draw) -> Vec<f64> {
 }
 
 /// About the room: 127 to 130 vertices, a bad one at the end, closed once or
-/// twice, in either order, a pair exchanged.
+/// twice, in either order, a pair exchanged, a hair apart.
 fn full(draw: &mut Draw) -> Vec<f64> {
     let count = draw.pick(&[127, 128, 128, 129, 130, 130]);
     let mut ring = shape::star(draw, count, 50.0, 60.0);
     if draw.once_in(2) {
         ring.reverse();
     }
-    match draw.below(5) {
+    match draw.below(6) {
         0 | 1 if count > 128 => {
             let place = 128 + draw.below(count - 128);
             ring[place][draw.below(2)] = draw.pick(&[2e9, -moved(1e9, 1), 1e300]);
@@ -99,6 +101,11 @@ fn full(draw: &mut Draw) -> Vec<f64> {
             ring.swap(place, place + 2);
         }
         3 => ring[count - 1] = ring[count - 2],
+        // The closing edge about the least length.
+        4 => {
+            let by = draw.pick(&[5e-7, 9e-7, 1.1e-6]);
+            ring[count - 1] = [ring[0][0] + by, ring[0][1]];
+        }
         _ => {}
     }
     for _ in 0..draw.pick(&[0, 0, 1, 2]) {
@@ -315,8 +322,8 @@ fn sound(draw: &mut Draw) -> Vec<f64> {
 /// The numbers of the outline that the reference makes of these, where it
 /// makes the same of them again.
 pub(super) fn stored(numbers: &[f64]) -> Option<Vec<f64>> {
-    let stored = numbers_of(&new_outline(numbers).ok()?);
-    let again = numbers_of(&new_outline(&stored).ok()?);
+    let stored = numbers_of(&handed_outline(numbers).ok()?);
+    let again = numbers_of(&handed_outline(&stored).ok()?);
     (again == stored).then_some(stored)
 }
 

@@ -352,7 +352,7 @@ pub fn loaded(draw: &mut Draw, _: usize) -> Vec<u8> {
         rings.extend(hole);
     }
     if far {
-        let tiny = draw.pick(&[1e-9, 1e-9, 1.0]);
+        let tiny = draw.pick(&[1e-9, 1e-5, 1.0]);
         rings.push(vec![[0.0, 0.0], [tiny, 0.0], [0.0, tiny]]);
     }
     write(false, distance, &rings)

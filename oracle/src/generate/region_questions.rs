@@ -8,7 +8,7 @@ use crate::outlines::Question;
 use crate::regions::{answerable, made, Changed, Given, INNER, OUTER};
 
 /// The distance and the rings of a job of the load, of several rings mostly.
-fn of_load(draw: &mut Draw, small: bool, only: Option<&str>) -> (f64, Given) {
+pub(super) fn of_load(draw: &mut Draw, small: bool, only: Option<&str>) -> (f64, Given) {
     loop {
         let line = drawn_line(draw, small, only).expect("a family");
         let Some(job) = Job::read(&line) else {
@@ -17,13 +17,23 @@ fn of_load(draw: &mut Draw, small: bool, only: Option<&str>) -> (f64, Given) {
         if job.counts.len() == 1 && only.is_none() && !draw.once_in(12) {
             continue;
         }
-        let given = Given {
-            lengths: job.counts.iter().map(|count| *count as u64).collect(),
-            numbers: job.numbers,
-        };
-        return (job.distance, given);
+        return (job.distance, Given::of_job(&job));
     }
 }
+
+/// Families that one of 4 to 12 or 27 refuses.
+const FAULTY: [&str; 10] = [
+    "few",
+    "range",
+    "room",
+    "room",
+    "repeated",
+    "hairline",
+    "outside",
+    "overlap",
+    "holes",
+    "two-faults",
+];
 
 /// Families for places that the others seldom reach: joins, 15, 18, 19, and a
 /// piece's 4, 5 and 6.
@@ -39,12 +49,19 @@ const RARE: [&str; 8] = [
 ];
 
 /// Those that the small load has not.
-const WIDE: [&str; 5] = ["holes", "loaded", "joined-holes", "saw-room", "full"];
+const WIDE: [&str; 6] = [
+    "room",
+    "holes",
+    "loaded",
+    "joined-holes",
+    "saw-room",
+    "full",
+];
 
 /// One of the load, small mostly.
-fn any(draw: &mut Draw) -> (f64, Given) {
+pub(super) fn any(draw: &mut Draw) -> (f64, Given) {
     let only = match draw.below(10) {
-        0 => Some(draw.pick(&["outside", "overlap", "holes", "two-faults"])),
+        0 => Some(draw.pick(&FAULTY)),
         1 | 2 => Some(draw.pick(&RARE)),
         _ => None,
     };
@@ -53,7 +70,7 @@ fn any(draw: &mut Draw) -> (f64, Given) {
 }
 
 /// Ring lengths that do not fit, their sum past the largest number too.
-fn misfit(draw: &mut Draw, mut given: Given) -> Given {
+pub(super) fn misfit(draw: &mut Draw, mut given: Given) -> Given {
     let place = draw.below(given.lengths.len() + 1);
     match draw.below(4) {
         0 => given.lengths.clear(),
@@ -67,7 +84,7 @@ fn misfit(draw: &mut Draw, mut given: Given) -> Given {
 }
 
 /// A number that is not finite, or one too many.
-fn spoilt(draw: &mut Draw, mut given: Given) -> Given {
+pub(super) fn spoilt(draw: &mut Draw, mut given: Given) -> Given {
     if draw.once_in(3) {
         given.numbers.push(1.0);
     }

@@ -158,7 +158,7 @@ pub fn many_cells(draw: &mut Draw, most: usize) -> Vec<u8> {
 /// Tiny holes in large squares: vertices that become one in the front.
 pub fn tiny_hole(draw: &mut Draw, _: usize) -> Vec<u8> {
     let far = draw.pick(&[1e9, 5e8, 1e6, 100.0]);
-    let tiny = draw.pick(&[1e-9, 1e-9, 1e-8, 1e-6, 1e-3]);
+    let tiny = draw.pick(&[1e-9, 1e-6, 2e-6, 1e-5, 1e-3]);
     let outer = if draw.once_in(2) {
         rectangle([-far, -far], [far, far])
     } else {

@@ -4,7 +4,7 @@
 
 use oracle::generate::{clearance, pair};
 use oracle::hypot;
-use oracle::outlines::{new_outline, numbers_of, Outline, Question, Shape};
+use oracle::outlines::{handed_outline, Outline, Question, Shape};
 use oracle::region::{Containment, PlanarPoint};
 
 pub type Edge = [[f64; 2]; 2];
@@ -50,10 +50,8 @@ fn lowest(first: &Shape, second: &Shape) -> Vec<u64> {
 
 /// The outline that the reference makes of a shape, and its own shape.
 pub fn made(shape: &Shape) -> Option<(Outline, Shape)> {
-    let outline = new_outline(given(shape)).ok()?;
-    let numbers = numbers_of(&outline);
-    let count = numbers.len() as u64 / 2;
-    Some((outline, Shape { count, numbers }))
+    let outline = handed_outline(given(shape)).ok()?;
+    Some((outline, Shape::new(&outline)))
 }
 
 /// Each drawn pair is told as it should. How many are apart, meet with the

@@ -14,21 +14,33 @@ type Offset = fn(&[f64], f64, &mut [f64]) -> (Result<usize, Refusal>, Events);
 
 /// An outline: 3 to 128 vertices within ±1e9.
 ///
-/// One that was drawn runs counter-clockwise, and no two of its edges that are no neighbours share a point, which is told exactly.
-/// One that comes from an inset, an outset or [`Region::hole`](crate::Region::hole), or was [`stored`](Self::stored), is kept as it
-/// is, and can be asked and offset like any other.
+/// One that was drawn runs counter-clockwise, no edge of it is shorter than 0.000001, and no two of its edges that are no neighbours
+/// share a point, which is told exactly. One that comes from an inset, an outset or [`Region::hole`](crate::Region::hole), or was
+/// [`stored`](Self::stored), is kept as it is, and can be asked and offset like any other:
+///
+/// ```
+/// use lizardwire::{Outline, Refusal};
+///
+/// let drawn = [(0.0, 0.0), (4.0, 0.0), (4.0, 4.0), (1.0, 4.0), (0.0, 3.0)];
+/// let cage = Outline::new(&drawn)?.inset(1.7071065)?;
+/// // It has an edge of 2.3e-7, and can be inset again; as a drawing it is refused.
+/// assert!(cage.inset(0.1).is_ok());
+/// assert_eq!(Outline::new(&cage.vertices()), Err(Refusal::Hairline { ring: 0 }));
+/// # Ok::<(), Refusal>(())
+/// ```
 #[derive(Debug, Clone, PartialEq)]
 pub struct Outline {
     numbers: Vec<f64>,
 }
 
 impl Outline {
-    /// The outline of these vertices, in either direction, with the first one repeated at the end or not: 2, 4 to 9.
+    /// The outline of these vertices, in either direction, with the first one repeated at the end or not: 2, 4 to 7, 27,
+    /// 8, 9.
     pub fn new(points: &[Point]) -> Result<Self, Refusal> {
         Self::from_numbers(&numbers_of(points))
     }
 
-    /// The outline of a flat list of numbers, east then north: 1, 2, 4 to 9.
+    /// The outline of a flat list of numbers, east then north: 1, 2, 4 to 7, 27, 8, 9.
     pub fn from_numbers(numbers: &[f64]) -> Result<Self, Refusal> {
         let mut out = room();
         let count = slices::outline(numbers, &mut out)?;

@@ -11,8 +11,9 @@ fn room() -> [f64; crate::REGION_NUMBERS] {
 
 /// An outline with up to 8 holes of up to 32 vertices each.
 ///
-/// The rings of one that was drawn run counter-clockwise, its holes too, which lie inside and apart. One that comes from an inset
-/// or was [`stored`](Self::stored) is kept as it is, and can be asked and inset like any other.
+/// The rings of one that was drawn run counter-clockwise, its holes too, which lie inside and apart, and no edge of them is shorter
+/// than 0.000001. One that comes from an inset or was [`stored`](Self::stored) is kept as it is, and can be asked and inset like any
+/// other.
 #[derive(Debug, Clone, PartialEq)]
 pub struct Region {
     numbers: Vec<f64>,
@@ -20,13 +21,13 @@ pub struct Region {
 }
 
 impl Region {
-    /// The region of these rings, the outer one first: 2 to 12.
+    /// The region of these rings, the outer one first: 2 to 7, 27, 8 to 12.
     pub fn new<R: AsRef<[Point]>>(rings: &[R]) -> Result<Self, Refusal> {
         let (numbers, lengths) = flat(rings);
         Self::from_numbers(&numbers, &lengths)
     }
 
-    /// The region of a flat list of numbers, with the vertices of each ring: 1 to 12.
+    /// The region of a flat list of numbers, with the vertices of each ring: 1 to 7, 27, 8 to 12.
     pub fn from_numbers(numbers: &[f64], lengths: &[usize]) -> Result<Self, Refusal> {
         let mut out = room();
         let rings = slices::region(numbers, lengths, &mut out)?;

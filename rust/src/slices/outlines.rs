@@ -4,13 +4,14 @@ use super::answers::{self, Events, Meeting, Nearest, NearestPoints, Place, Point
 use crate::ffi;
 use crate::refusal::Refusal;
 
-/// How many vertices the outline of these numbers has: 1, 2, 4 to 9.
+/// How many vertices the outline of these numbers has: 1, 2, 4 to 7, 27, 8, 9.
 pub fn check(numbers: &[f64]) -> Result<usize, Refusal> {
     // SAFETY: the pointer leads to as many numbers as are said.
     answers::vertices(unsafe { ffi::lw_check(numbers.as_ptr(), numbers.len()) })
 }
 
-/// Writes the outline of these numbers to `out`, counter-clockwise, and says how many vertices it has: 1, 2, 4 to 9, then 20.
+/// Writes the outline of these numbers to `out`, counter-clockwise, and says how many vertices it has: 1, 2, 4 to 7, 27, 8, 9, then
+/// 20.
 pub fn outline(numbers: &[f64], out: &mut [f64]) -> Result<usize, Refusal> {
     // SAFETY: both pointers lead to as many numbers as are said, and a `&mut` is apart from a `&`.
     answers::vertices(unsafe {

@@ -4,7 +4,8 @@ use super::answers::{self, Events, Nearest, Place, Point, Rings};
 use crate::ffi;
 use crate::refusal::Refusal;
 
-/// Writes the region of these numbers to `out`, ring after ring; `lengths` has the vertices of each ring: 1 to 12, then 20.
+/// Writes the region of these numbers to `out`, ring after ring; `lengths` has the vertices of each ring: 1 to 7, 27, 8 to 12, then
+/// 20.
 pub fn region(numbers: &[f64], lengths: &[usize], out: &mut [f64]) -> Result<Rings, Refusal> {
     let (n, l, o) = (numbers, lengths, out);
     // SAFETY: each pointer leads to as many numbers as are said, and a `&mut` is apart from a `&`.
@@ -20,7 +21,7 @@ pub fn region(numbers: &[f64], lengths: &[usize], out: &mut [f64]) -> Result<Rin
     })
 }
 
-/// Writes the inset of the region of these numbers to `out`: 1 to 14, what the offset meets, then 20. Above 0 its
+/// Writes the inset of the region of these numbers to `out`: 1 to 7, 27, 8 to 14, what the offset meets, then 20. Above 0 its
 /// vertices lie at least as far from the edges of the rings handed in as [`Region::inset`](crate::Region::inset) says.
 pub fn region_inset(
     numbers: &[f64],

@@ -66,8 +66,8 @@ part-part-start c = search needs
 part-part-end : tie.Need-part-part-end Inv-loop μ-loop
 part-part-end c = search needs
 
-check-ring-requires : tie.Need-check-ring-requires Inv-loop μ-loop
-check-ring-requires c κs = search needs
+check-door-requires : tie.Need-check-door-requires Inv-loop μ-loop
+check-door-requires c κs = search needs
 
 granted-requires : tie.Need-granted-requires Inv-loop μ-loop
 granted-requires c κs = search needs
@@ -85,14 +85,14 @@ returns c =
     let yes1 = c .before .before .if1 .taken in
     let count-at2-gives = c .before .before .before .before .before .before .count-at2 .ensures in
     let args = c8 .before .before .before .before .before .args in
-    let check-ring-gives = c .before .before .before .before .check-ring .ensures in
+    let check-door-gives = c .before .before .before .before .check-door .ensures in
     let no-outline-gives = c .before .no-outline .ensures in
     let going = c .before .before .before .before .before .before .before .loop-test .taken in
     let loop = c .before .before .before .before .before .before .before .before .loop in
     let refused = sym granted-gives ∙ not-true _ yes1 in
     c .loaded .ensures ∙
     ring-refused _ _ _ _ _ _ _ (loop .inv .6) _ count-at2-gives _
-    (part-from (args .ps .now) (2 * loop .start)) _ check-ring-gives _
+    (part-from (args .ps .now) (2 * loop .start)) _ check-door-gives _
     no-outline-gives (omega (arith, loop .inv .1, going)) refused
 
 slice-aggregate-put-hole : tie.Need-slice-aggregate-put-hole Inv-loop μ-loop
@@ -122,7 +122,7 @@ loop-again c =
     let inv = c8 .before .before .loop .inv in
     let args = c8 .before .before .before .before .before .before .before .args in
     let loop-start = c8 .before .before .loop .start in
-    let check-ring-gives = c .before .before .before .before .before .before .check-ring .ensures in
+    let check-door-gives = c .before .before .before .before .before .before .check-door .ensures in
     let granted-gives = c .before .before .before .before .before .granted .ensures in
     let no1 = c .before .before .before .before .if1 .left in
     let put-hole-gives = c .before .before .put-hole .ensures in
@@ -134,7 +134,7 @@ loop-again c =
       next-ring _ _ _ _ (inv .3) n,
       next-there _ _ (inv .2) _ _ _ (omega (arith, inv .1, within)) (inv .3) n,
       search needs,
-      ring-loaded _ _ _ _ _ _ _ (inv .6) _ n _ (part-from (args .ps .now) (2 * loop-start)) _ check-ring-gives _ _
+      ring-loaded _ _ _ _ _ _ _ (inv .6) _ n _ (part-from (args .ps .now) (2 * loop-start)) _ check-door-gives _ _
           (sym granted-gives ∙ not-false _ no1) put-hole-gives (c .store-count .ensures),
     )
 
@@ -164,7 +164,7 @@ load-holes-spec =
     sub-part
     part-part-start
     part-part-end
-    check-ring-requires
+    check-door-requires
     granted-requires
     no-outline-requires
     loaded-requires

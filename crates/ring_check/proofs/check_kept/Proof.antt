@@ -25,7 +25,7 @@ unfolding Checks.check-kept
 returns-2 c =
     let check-range-gives = c .before .check-range .ensures in
     let no1 = c .before .before .if1 .left in
-    no _ _ _ _ (c .check-in-range .ensures ∙ ap (Checks.check-in-range _ _ _) check-range-gives) (le-ltb _ _ no1)
+    no _ _ _ _ (c .check-in-range .ensures ∙ ap (Checks.check-in-range _ _ _ _) check-range-gives) (le-ltb _ _ no1)
 
 pub check-kept-spec : {M : Type 1} → statement M
 check-kept-spec =

@@ -1,4 +1,5 @@
 -- `ring_check::check_reversed` meets its contract. Assumes nothing.
+use mathlib.Core.Path.{refl}
 use Rattle.ring_check.specs.Checks
 use borrow.Author.Needs.{needs}
 use Rattle.ring_check.proofs.check_reversed.Statement.{statement}
@@ -15,7 +16,10 @@ passed-requires c κs = search needs
 
 returns : tie.Need-returns
 unfolding Checks.check-reversed
-returns c = cc
+returns c =
+    let crossed-gives = c .before .crossed .ensures in
+    let simple-gives = c .before .before .check-simple .ensures in
+    rw (c .passed .ensures, crossed-gives, simple-gives) refl
 
 pub check-reversed-spec : {M : Type 1} → statement M
 check-reversed-spec =

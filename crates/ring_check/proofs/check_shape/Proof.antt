@@ -1,16 +1,16 @@
 -- `ring_check::check_shape` meets its contract. Assumes nothing.
 use mathlib.Core.Path.{sym, ap, _∙_}
-use Rattle.base.proofs.Choices.{yes, no}
 use Rattle.ring_check.specs.Checks
+use Rattle.ring_check.proofs.Widths.{shape-yes, shape-no}
 use borrow.Author.Needs.{needs}
 use Rattle.ring_check.proofs.check_shape.Statement.{statement}
 use Rattle.ring_check.proofs.check_shape.Tie as tie
 
-repeats-requires : tie.Need-repeats-requires
-repeats-requires c κs = search needs
+edge-refusal-requires : tie.Need-edge-refusal-requires
+edge-refusal-requires c κs = search needs
 
-refused-requires : tie.Need-refused-requires
-refused-requires c κs = search needs
+granted-requires : tie.Need-granted-requires
+granted-requires c κs = search needs
 
 signed-area-requires : tie.Need-signed-area-requires
 signed-area-requires c κs = search needs
@@ -18,28 +18,30 @@ signed-area-requires c κs = search needs
 check-area-requires : tie.Need-check-area-requires
 check-area-requires c κs = search needs
 
+refused-requires : tie.Need-refused-requires
+refused-requires c κs = search needs
+
 returns : tie.Need-returns
-unfolding Checks.check-shape
 returns c =
-    let repeats-gives = c .before .before .repeats .ensures in
-    let yes1 = c .before .if1 .taken in
-    yes _ _ _ _ (c .refused .ensures) (sym repeats-gives ∙ yes1)
+    let signed-area-gives = c .before .signed-area .ensures in
+    let granted-gives = c .before .before .before .granted .ensures in
+    let edges-give = c .before .before .before .before .edge-refusal .ensures in
+    shape-yes _ _ _ _ _ _ edges-give (sym granted-gives ∙ c .before .before .if1 .taken) (c .check-area .ensures ∙ ap (Checks.check-area _ _ _) signed-area-gives)
 
 returns-2 : tie.Need-returns-2
-unfolding Checks.check-shape
 returns-2 c =
-    let signed-area-gives = c .before .signed-area .ensures in
-    let repeats-gives = c .before .before .before .repeats .ensures in
-    let no1 = c .before .before .if1 .left in
-    no _ _ _ _ (c .check-area .ensures ∙ ap (Checks.check-area _ _ _) signed-area-gives) (sym repeats-gives ∙ no1)
+    let granted-gives = c .before .before .granted .ensures in
+    let edges-give = c .before .before .before .edge-refusal .ensures in
+    shape-no _ _ _ _ _ _ edges-give (sym granted-gives ∙ c .before .if1 .left) (c .refused .ensures)
 
 pub check-shape-spec : {M : Type 1} → statement M
 check-shape-spec =
     tie.close
     (tie.spec
-    repeats-requires
-    refused-requires
+    edge-refusal-requires
+    granted-requires
     signed-area-requires
     check-area-requires
+    refused-requires
     returns
     returns-2)

@@ -1,4 +1,5 @@
 -- `ring_check::kept` meets its contract. Assumes nothing.
+use mathlib.Core.Path.{refl}
 use Rattle.ring_check.specs.Checks
 use borrow.Author.Needs.{needs}
 use Rattle.ring_check.proofs.kept.Statement.{statement}
@@ -21,7 +22,12 @@ choose-requires c κs = search needs
 
 returns : tie.Need-returns
 unfolding Checks.kept
-returns c = cc
+returns c =
+    let same-gives = c .before .same .ensures in
+    let first-gives = c .before .before .vertex-at2 .ensures in
+    let last-gives = c .before .before .before .vertex-at .ensures in
+    let less-gives = c .before .before .before .before .less .ensures in
+    rw (c .choose .ensures, same-gives, first-gives, last-gives, less-gives) refl
 
 pub kept-spec : {M : Type 1} → statement M
 kept-spec =

@@ -1,4 +1,5 @@
 -- `ring_check::passed` meets its contract. Assumes nothing.
+use mathlib.Core.Path.{refl}
 use Rattle.ring_check.specs.Checks
 use borrow.Author.Needs.{needs}
 use Rattle.ring_check.proofs.passed.Statement.{statement}
@@ -15,7 +16,10 @@ choose-requires c κs = search needs
 
 returns : tie.Need-returns
 unfolding Checks.passed
-returns c = cc
+returns c =
+    let refused-gives = c .before .refused .ensures in
+    let granted-gives = c .before .before .granted .ensures in
+    rw (c .choose .ensures, granted-gives, refused-gives) refl
 
 pub passed-spec : {M : Type 1} → statement M
 passed-spec = tie.close (tie.spec granted-requires refused-requires choose-requires returns)

@@ -34,7 +34,7 @@ returns c =
     let inv = c .before .before .before .before .loop .inv in
     let edge-end-gives = c .before .before .edge-end .ensures in
     let same-gives = c .before .same .ensures in
-    repeats-here _ _ _ _ _ _ (inv .1 (search needs)) edge-end-gives same-gives (inv .2) (search needs) (c .if1 .taken)
+    repeats-here _ _ _ _ _ (inv .1 (search needs)) edge-end-gives _ same-gives (search needs) (c .if1 .taken)
 
 add-k : tie.Need-add-k Inv-loop μ-loop
 add-k c = search needs
@@ -47,7 +47,7 @@ loop-again c =
     let edge-end-gives = c .before .before .edge-end .ensures in
     let inv = c .before .before .before .before .loop .inv in
     let same-gives = c .before .same .ensures in
-    (search needs, λ l. starts _ _ _ _ edge-end-gives l, repeats-not _ _ _ _ _ _ (inv .1 (search needs)) edge-end-gives same-gives (inv .2) (c .if1 .left))
+    (search needs, λ l. starts _ _ _ _ edge-end-gives l, repeats-not _ _ _ _ _ (inv .1 (search needs)) edge-end-gives _ same-gives (inv .2) (c .if1 .left))
 
 returns-2 : tie.Need-returns-2 Inv-loop μ-loop
 unfolding Checks.repeats

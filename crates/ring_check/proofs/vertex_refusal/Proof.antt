@@ -1,4 +1,5 @@
 -- `ring_check::vertex_refusal` meets its contract. Assumes nothing.
+use mathlib.Core.Path.{refl}
 use Rattle.ring_check.specs.Checks
 use borrow.Author.Needs.{needs}
 use Rattle.ring_check.proofs.vertex_refusal.Statement.{statement}
@@ -21,7 +22,12 @@ choose-requires-3 c κs = search needs
 
 returns : tie.Need-returns
 unfolding Checks.vertex-refusal
-returns c = cc
+returns c =
+    let east-gives = c .before .beyond2 .ensures in
+    let north-gives = c .before .before .choose2 .ensures in
+    let north-beyond = c .before .before .before .beyond .ensures in
+    let fits-gives = c .before .before .before .before .choose .ensures in
+    rw (c .choose3 .ensures, east-gives, north-gives, north-beyond, fits-gives) refl
 
 pub vertex-refusal-spec : {M : Type 1} → statement M
 vertex-refusal-spec =

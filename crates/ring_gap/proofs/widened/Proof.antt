@@ -1,4 +1,5 @@
 -- `ring_gap::widened` meets its contract. Assumes nothing.
+use mathlib.Core.Path.{refl}
 use Rattle.ring_gap.specs.Blocks
 use borrow.Author.Needs.{needs}
 use Rattle.ring_gap.proofs.widened.Statement.{statement}
@@ -33,7 +34,12 @@ high-requires-3 c κs = search needs
 
 returns : tie.Need-returns
 unfolding Blocks.widened
-returns c = cc
+returns c =
+    let lows = c .before .before .before in
+    let points = lows .before .before .before in
+    let ends = points .before in
+    rw (c .high3 .ensures, c .before .high2 .ensures, c .before .before .high .ensures)
+    (rw (lows .low3 .ensures .0, lows .before .low2 .ensures .0, lows .before .before .low .ensures .0) (rw (points .along .ensures, ends .sub2 .ensures, ends .before .sub .ensures) refl))
 
 pub widened-spec : {M : Type 1} → statement M
 widened-spec =

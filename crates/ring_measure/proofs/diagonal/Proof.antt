@@ -1,4 +1,5 @@
 -- `ring_measure::diagonal` meets its contract. Assumes nothing.
+use mathlib.Core.Path.{refl}
 use Rattle.ring_measure.specs.Measures
 use borrow.Author.Needs.{needs}
 use Rattle.ring_measure.proofs.diagonal.Statement.{statement}
@@ -9,7 +10,7 @@ hypot-requires c κs = search needs
 
 returns : tie.Need-returns
 unfolding Measures.diagonal
-returns c = cc
+returns c = rw (c .hypot .ensures) refl
 
 pub diagonal-spec : {M : Type 1} → statement M
 diagonal-spec = tie.close (tie.spec hypot-requires returns)

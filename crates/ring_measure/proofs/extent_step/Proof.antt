@@ -1,4 +1,5 @@
 -- `ring_measure::extent_step` meets its contract. Assumes nothing.
+use mathlib.Core.Path.{refl}
 use Rattle.ring_measure.specs.Measures
 use borrow.Author.Needs.{needs}
 use Rattle.ring_measure.proofs.extent_step.Statement.{statement}
@@ -15,7 +16,7 @@ max-requires c κs = search needs
 
 returns : tie.Need-returns
 unfolding Measures.extent-step
-returns c = cc
+returns c = rw (c .max .ensures, c .before .reach .ensures, c .before .before .vertex-at .ensures) refl
 
 pub extent-step-spec : {M : Type 1} → statement M
 extent-step-spec = tie.close (tie.spec vertex-at-requires reach-requires max-requires returns)

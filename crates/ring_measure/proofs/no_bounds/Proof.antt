@@ -1,5 +1,5 @@
 -- `ring_measure::no_bounds` meets its contract. Assumes nothing.
-use Rattle.ring_measure.specs.Measures
+use mathlib.Core.Path.{refl}
 use borrow.Author.Needs.{needs}
 use Rattle.ring_measure.proofs.no_bounds.Statement.{statement}
 use Rattle.ring_measure.proofs.no_bounds.Tie as tie
@@ -8,7 +8,7 @@ infinity-requires : tie.Need-infinity-requires
 infinity-requires c κs = search needs
 
 returns : tie.Need-returns
-returns c = cc
+returns c = rw (c .infinity .ensures) refl
 
 pub no-bounds-spec : {M : Type 1} → statement M
 no-bounds-spec = tie.close (tie.spec infinity-requires returns)

@@ -1,4 +1,5 @@
 -- `ring_measure::perimeter_step` meets its contract. Assumes nothing.
+use mathlib.Core.Path.{refl}
 use Rattle.ring_measure.specs.Measures
 use borrow.Author.Needs.{needs}
 use Rattle.ring_measure.proofs.perimeter_step.Statement.{statement}
@@ -18,7 +19,9 @@ length-of-requires c κs = search needs
 
 returns : tie.Need-returns
 unfolding Measures.perimeter-step
-returns c = cc
+returns c =
+    let ends = c .before .before in
+    rw (c .length-of .ensures, c .before .sub .ensures, ends .edge-end .ensures, ends .before .vertex-at .ensures) refl
 
 pub perimeter-step-spec : {M : Type 1} → statement M
 perimeter-step-spec =

@@ -1,4 +1,5 @@
 -- `ring_measure::reach` meets its contract. Assumes nothing.
+use mathlib.Core.Path.{refl}
 use Rattle.ring_measure.specs.Measures
 use borrow.Author.Needs.{needs}
 use Rattle.ring_measure.proofs.reach.Statement.{statement}
@@ -15,7 +16,7 @@ max-requires c κs = search needs
 
 returns : tie.Need-returns
 unfolding Measures.reach
-returns c = cc
+returns c = rw (c .max .ensures, c .before .abs2 .ensures, c .before .before .abs .ensures) refl
 
 pub reach-spec : {M : Type 1} → statement M
 reach-spec = tie.close (tie.spec abs-requires abs-requires-2 max-requires returns)

@@ -1,4 +1,5 @@
 -- `ring_measure::widened` meets its contract. Assumes nothing.
+use mathlib.Core.Path.{refl}
 use Rattle.ring_measure.specs.Measures
 use borrow.Author.Needs.{needs}
 use Rattle.ring_measure.proofs.widened.Statement.{statement}
@@ -18,7 +19,9 @@ max-requires-2 c κs = search needs
 
 returns : tie.Need-returns
 unfolding Measures.widened
-returns c = cc
+returns c =
+    let least = c .before .before in
+    rw (c .max2 .ensures, c .before .max .ensures, least .min2 .ensures, least .before .min .ensures) refl
 
 pub widened-spec : {M : Type 1} → statement M
 widened-spec = tie.close (tie.spec min-requires min-requires-2 max-requires max-requires-2 returns)

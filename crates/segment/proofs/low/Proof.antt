@@ -1,5 +1,5 @@
 -- `segment::low` meets its contract. Assumes nothing.
-use mathlib.Core.Path.{sym, subst}
+use mathlib.Core.Path.{refl, sym, subst}
 use lib.Dec.{T}
 use Rattle.segment.specs.Boxes
 use borrow.Author.Needs.{needs}
@@ -17,7 +17,7 @@ returns : tie.Need-returns
 unfolding Boxes.low Boxes.lesser
 returns c =
     let g = c .before .before .before .before .before .before .good in (
-      cc,
+      rw (c .choose2 .ensures, c .before .before .before .choose .ensures) refl,
       (
         record { east-double = subst T (sym (g .0 .1 .1 .0 .1)) tt; north-double = subst T (sym (g .0 .1 .1 .1 .0 .1)) tt },
         record { east-double = subst T (sym (g .1 .0 .1 .1 .0 .1)) tt; north-double = subst T (sym (g .1 .0 .1 .1 .1 .0 .1)) tt },

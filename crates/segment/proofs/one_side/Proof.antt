@@ -1,4 +1,5 @@
 -- `segment::one_side` meets its contract. Assumes nothing.
+use mathlib.Core.Path.{refl}
 use Rattle.segment.specs.Meeting
 use borrow.Author.Needs.{needs}
 use Rattle.segment.proofs.one_side.Statement.{statement}
@@ -18,7 +19,7 @@ is-right-requires-2 c κs = search needs
 
 returns : tie.Need-returns
 unfolding Meeting.one-side
-returns c = cc
+returns c = rw (c .is-right2 .ensures, c .before .is-right .ensures, c .before .before .is-left2 .ensures, c .before .before .before .is-left .ensures) refl
 
 pub one-side-spec : {M : Type 1} → statement M
 one-side-spec =

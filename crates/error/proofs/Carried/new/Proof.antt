@@ -144,6 +144,12 @@ enum-told-6 c = search needs
 told-requires-23 : tie.Need-told-requires-23
 told-requires-23 c κs = search needs
 
+enum-known-r-18 : tie.Need-enum-known-r-18
+enum-known-r-18 c = search needs
+
+told-requires-24 : tie.Need-told-requires-24
+told-requires-24 c κs = search needs
+
 returns : tie.Need-returns
 unfolding Carries.carried Carries.carried-of Refusals.values
 returns c = c .told .ensures ∙ sym (ap Carries.carried (c .before .enum-told .given .1))
@@ -270,6 +276,12 @@ returns-23 : tie.Need-returns-23
 unfolding Carries.carried Carries.carried-of Refusals.values
 returns-23 c = c .told23 .ensures ∙ sym (ap Carries.carried (c .before .enum-told6 .given .1))
 
+returns-24 : tie.Need-returns-24
+unfolding Carries.carried Carries.carried-of Refusals.values
+returns-24 c =
+    let r18-given = c .before .before .r18 .given in
+    c .told24 .ensures ∙ sym (ap Carries.carried (r18-given .1))
+
 pub new-spec : {M : Type 1} → statement M
 new-spec =
     tie.close
@@ -320,6 +332,8 @@ new-spec =
     told-requires-22
     enum-told-6
     told-requires-23
+    enum-known-r-18
+    told-requires-24
     returns
     returns-2
     returns-3
@@ -342,4 +356,5 @@ new-spec =
     returns-20
     returns-21
     returns-22
-    returns-23)
+    returns-23
+    returns-24)

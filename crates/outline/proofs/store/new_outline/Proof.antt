@@ -4,8 +4,8 @@ use borrow.Author.Needs.{needs}
 use Rattle.outline.proofs.store.new_outline.Statement.{statement}
 use Rattle.outline.proofs.store.new_outline.Tie as tie
 
-check-ring-requires : tie.Need-check-ring-requires
-check-ring-requires c κs = search needs
+check-door-requires : tie.Need-check-door-requires
+check-door-requires c κs = search needs
 
 outline-of-requires : tie.Need-outline-of-requires
 outline-of-requires c κs = search needs
@@ -15,4 +15,4 @@ unfolding Outlines.new-outline
 returns c = cc
 
 pub new-outline-spec : {M : Type 1} → statement M
-new-outline-spec = tie.close (tie.spec check-ring-requires outline-of-requires returns)
+new-outline-spec = tie.close (tie.spec check-door-requires outline-of-requires returns)

@@ -9,8 +9,8 @@ use Rattle.outline_lent.proofs.direct.check_if.Tie as tie
 granted-requires : tie.Need-granted-requires
 granted-requires c κs = search needs
 
-check-ring-requires : tie.Need-check-ring-requires
-check-ring-requires c κs = search needs
+check-door-requires : tie.Need-check-door-requires
+check-door-requires c κs = search needs
 
 refused-requires : tie.Need-refused-requires
 refused-requires c κs = search needs
@@ -20,7 +20,7 @@ unfolding Direct.check-if
 returns c =
     let granted-gives = c .before .before .granted .ensures in
     let yes1 = c .before .if1 .taken in
-    yes _ _ _ _ (c .check-ring .ensures) (sym granted-gives ∙ yes1)
+    yes _ _ _ _ (c .check-door .ensures) (sym granted-gives ∙ yes1)
 
 returns-2 : tie.Need-returns-2
 unfolding Direct.check-if
@@ -31,4 +31,4 @@ returns-2 c =
 
 pub check-if-spec : {M : Type 1} → statement M
 check-if-spec =
-    tie.close (tie.spec granted-requires check-ring-requires refused-requires returns returns-2)
+    tie.close (tie.spec granted-requires check-door-requires refused-requires returns returns-2)

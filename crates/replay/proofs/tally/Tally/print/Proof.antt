@@ -5,10 +5,10 @@ use Rattle.replay.proofs.tally.Tally.print.Statement.{statement}
 use Rattle.replay.proofs.tally.Tally.print.Tie as tie
 
 abbrev Inv-loop : tie.InvT-loop
-Inv-loop compared differ k₀ k = k ≤ 18
+Inv-loop compared differ k₀ k = k ≤ 19
 
 abbrev μ-loop : tie.MeasureT-loop
-μ-loop compared differ k₀ k = 18 - k
+μ-loop compared differ k₀ k = 19 - k
 
 loop-holds : tie.Need-loop-holds Inv-loop μ-loop
 loop-holds c = search needs
