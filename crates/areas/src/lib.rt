@@ -1,17 +1,19 @@
 // Areas, in square metres and in hectares.
+#![tactic(auto)]
+
 ghost use Rattle.std.specs.Prelude.{◌≡◌};
 ghost use Rattle.areas.specs.Areas;
 
 use error::Refusal;
 
 // An area in square metres, never negative.
-#[derive(Drop)]
+#[derive(Clone, Copy)]
 pub struct Area {
     pub value: f64,
 }
 
 // An area, or the refusal of its number.
-#[derive(Drop)]
+#[derive(Clone, Copy)]
 pub struct NewArea {
     pub refusal: Refusal,
     pub area: Area,

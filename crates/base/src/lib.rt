@@ -1,4 +1,6 @@
 // Counted loops and choices: their laws in proofs/. Of code, a choice and a difference of whole numbers that every crate takes from here.
+#![tactic(auto)]
+
 ghost use Rattle.std.specs.Prelude.{◌≡◌, cond, ◌-◌};
 
 // a where the test holds, else b.

@@ -1,6 +1,6 @@
 -- Laws of the refusal's number. Assumes nothing.
 use mathlib.Core.Path.{◌≡◌, refl}
-use mathlib.Core.Bool.{true, false, false≢true}
+use mathlib.Core.Bool.{true, false≢true}
 use Rattle.error.specs.declared.Refusal.{Refusal}
 use Rattle.error.specs.declared.Refusal.TheVariants.{Granted, Odd, NotFinite, Lengths, Few, Range, Room, Repeated, Flat, Crossed, ManyHoles, HoleOutside, HolesTouch, Far, Negative, Slots, Collapses, Splits, Unfinished, ManyPieces}
 use Rattle.error.specs.declared.Refusal.TheVariants.{Short, Shape, Job, Hairline}

@@ -5,7 +5,7 @@ use Rattle.std.specs.Float.{binary64}
 use Rattle.std.specs.Float.Ieee.{of_bits}
 use Rattle.outline.specs.Outlines.{outline}
 use Rattle.offset.specs.Offsets.{inset}
-use Rattle.examples.specs.Table.{rings, outline_of, inset-of, offset_answer, answer, w, no}
+use Rattle.examples.specs.Table.{rings, outline_of, inset_of, offset_answer, answer, w, no}
 
 unfoldable pub drawn : List Float
 drawn = w 0 ∷ w 0 ∷ w 4 ∷ w 0 ∷ w 4 ∷ w 4 ∷ w 1 ∷ w 4 ∷ w 0 ∷ w 3 ∷ []
@@ -35,7 +35,7 @@ inner =
 
 pub record Again : Type 0 where
   -- the piece that an offset leaves may have a hairline
-  pub accepted : answer (inset-of drawn margin) ≡ rings (cage ∷ []) (0 ∷ 0 ∷ 0 ∷ [])
+  pub accepted : answer (inset_of drawn margin) ≡ rings (cage ∷ []) (0 ∷ 0 ∷ 0 ∷ [])
   -- a drawing may not
   pub outside : answer (outline_of cage) ≡ no 27 (0 ∷ []) [] [] []
   -- a shape handed in may

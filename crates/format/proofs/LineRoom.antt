@@ -1,5 +1,5 @@
--- What a well_formed line has room for: the fields of a line and its commas are all of its bytes. Assumes nothing.
-use Prim.Native.Nat.{ℕ, zero, suc, ◌+◌, ◌-◌, ◌*◌, ◌≤◌, ◌<◌, zero-le, suc-le-suc}
+-- What a well-formed line has room for: the fields of a line and its commas are all of its bytes. Assumes nothing.
+use Prim.Native.Nat.{ℕ, zero, suc, ◌+◌, ◌*◌, ◌≤◌, ◌<◌, zero-le, suc-le-suc}
 use native.Mathlib.Nat.{le_trans, le_of_suc-le-suc, le_of_eq, zero-add, suc-add, add-zero, add-suc, mul-zero, mul-one, mul-suc, lt_of_not-le}
 use native.Mathlib.Omega.{arith}
 use mathlib.Core.Bool.{Bool, true, false, cond, ◌&&◌, ◌||◌, false≢true}
@@ -98,7 +98,7 @@ side_size field e = go (same_bytes field inset_word) refl e
 count_le : (field : List ℕ) → is_count field ≡ true → count_of field ≤ 999
 count_le field e = le_of_suc-le-suc (count_written field e).1
 
--- ---- a well_formed line
+-- ---- a well-formed line
 
 room_for : (s0 s1 s2 s3 s4 s5 l r n : ℕ) → s0 ≡ suc l → l ≤ 16384
     → 6 * 1 + s1 ≤ s0 → 17 * 1 + s2 ≤ s1 → 2 * 1 + s3 ≤ s2 → 2 * r + s4 ≤ s3 → 17 * n + s5 ≤ s4 → n ≤ 962

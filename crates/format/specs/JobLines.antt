@@ -89,7 +89,7 @@ parse_job line =
 
 -- ---- what is to hold
 
--- What memory a well_formed line needs: at most 999 vertex counts, and at most 962 coordinates. Side, distance and ring count take
+-- What memory a well-formed line needs: at most 999 vertex counts, and at most 962 coordinates. Side, distance and ring count take
 -- 24 bytes at least, and each coordinate 17 with its comma. Proved in `proofs/LineRoom.antt`.
 abbrev pub LineRoom : Type 0
 LineRoom =

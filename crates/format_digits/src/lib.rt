@@ -1,5 +1,7 @@
 // Numbers as bytes of an answer line: a float as 16 hexadecimal digits, a count as 1 to 3 decimal digits, each after its comma, stored to
 // lent bytes.
+#![tactic(auto)]
+
 ghost use Rattle.std.specs.Prelude.{◌≡◌, ◌∷◌, ◌+◌, ◌%◌, length};
 ghost use Rattle.format.specs.Numerals;
 ghost use Rattle.format.specs.Fields.{comma};

@@ -48,25 +48,25 @@ pub empty_count : is_count [] ≡ false
 unfolding is_count
 empty_count = refl
 
-module _ {A : Type 0} (test : List ℕ → Bool) (value_of_lem : List ℕ → A) (none : A) (line : List ℕ) (at : ℕ) where
+module _ {A : Type 0} (test : List ℕ → Bool) (value_of : List ℕ → A) (none : A) (line : List ℕ) (at : ℕ) where
   pub read : (end : ℕ) (formed : Bool) (value : A) (next : ℕ) → at ≤ length line → end ≡ field_end line at → formed ≡ test (take (end - at) (drop at line))
-      → value ≡ cond (test (take (end - at) (drop at line))) (value_of_lem (take (end - at) (drop at line))) none → next ≡ cond formed (end + 1) at
-      → ReadAt test value_of_lem none line at formed value next
+      → value ≡ cond (test (take (end - at) (drop at line))) (value_of (take (end - at) (drop at line))) none → next ≡ cond formed (end + 1) at
+      → ReadAt test value_of none line at formed value next
   read end formed value next h e f v n =
       record {
         formed_is = f ∙ ap test here;
-        value_is = v ∙ ap (λ (g : List ℕ). cond (test g) (value_of_lem g) none) here;
+        value_is = v ∙ ap (λ (g : List ℕ). cond (test g) (value_of g) none) here;
         next_is = n ∙ ap (λ (t : Bool). cond t (end + 1) at) (f ∙ ap test here) ∙ ap (λ (x : ℕ). cond (test (field_at line at)) (x + 1) at) e;
       }
     where
       here : take (end - at) (drop at line) ≡ field_at line at
       here = part_is at end line (inside line at end h e).0 ∙ ap (λ (x : ℕ). slice at x line) e ∙ sym (field_is line at h)
 
-  pub unread : length line < at → test [] ≡ false → ReadAt test value_of_lem none line at false none at
+  pub unread : length line < at → test [] ≡ false → ReadAt test value_of none line at false none at
   unread h e =
       record {
         formed_is = sym not_here;
-        value_is = ap (λ (t : Bool). cond t (value_of_lem (field_at line at)) none) (sym not_here);
+        value_is = ap (λ (t : Bool). cond t (value_of (field_at line at)) none) (sym not_here);
         next_is = ap (λ (t : Bool). cond t (field_end line at + 1) at) (sym not_here);
       }
     where
@@ -81,17 +81,17 @@ module _ {A : Type 0} (test : List ℕ → Bool) (value_of_lem : List ℕ → A)
       go true l = leb-true at (length line) l
       go false l = absurd (false≢true (sym e ∙ sym (ap test (no_field_at line at (leb-false at (length line) l))) ∙ t))
 
-  pub value_read : (formed : Bool) (value : A) (next : ℕ) → formed ≡ true → ReadAt test value_of_lem none line at formed value next → value ≡ value_of_lem (field_at line at)
-  value_read formed value next t r = r.value_is ∙ ap (λ (b : Bool). cond b (value_of_lem (field_at line at)) none) (sym r.formed_is ∙ t)
+  pub value_read : (formed : Bool) (value : A) (next : ℕ) → formed ≡ true → ReadAt test value_of none line at formed value next → value ≡ value_of (field_at line at)
+  value_read formed value next t r = r.value_is ∙ ap (λ (b : Bool). cond b (value_of (field_at line at)) none) (sym r.formed_is ∙ t)
 
-  next_read : (formed : Bool) (value : A) (next : ℕ) → formed ≡ true → ReadAt test value_of_lem none line at formed value next → next ≡ field_end line at + 1
+  next_read : (formed : Bool) (value : A) (next : ℕ) → formed ≡ true → ReadAt test value_of none line at formed value next → next ≡ field_end line at + 1
   next_read formed value next t r = r.next_is ∙ ap (λ (b : Bool). cond b (field_end line at + 1) at) (sym r.formed_is ∙ t)
 
-  pub rest_read : (formed : Bool) (value : A) (next : ℕ) → test [] ≡ false → formed ≡ true → ReadAt test value_of_lem none line at formed value next
+  pub rest_read : (formed : Bool) (value : A) (next : ℕ) → test [] ≡ false → formed ≡ true → ReadAt test value_of none line at formed value next
       → fields_from line next ≡ drop 1 (fields_from line at)
   rest_read formed value next e t r = ap (λ (n : ℕ). fields_from line n) (next_read formed value next t r) ∙ rest_is line at (within e (sym r.formed_is ∙ t))
 
-  pub further_read : (formed : Bool) (value : A) (next : ℕ) → test [] ≡ false → formed ≡ true → ReadAt test value_of_lem none line at formed value next → at < next
+  pub further_read : (formed : Bool) (value : A) (next : ℕ) → test [] ≡ false → formed ≡ true → ReadAt test value_of none line at formed value next → at < next
   further_read formed value next e t r =
       subst (λ (n : ℕ). at < n) (sym (next_read formed value next t r)) (past (field_end line at) (field_walk line at (within e (sym r.formed_is ∙ t))).from)
     where

@@ -9,10 +9,10 @@ unfoldable pub field_at : List ℕ → ℕ → List ℕ
 field_at line at = get_or (fields_from line at) 0 []
 
 -- Whether it is a number, its value and where the next field starts. Of a field that is none the value is 0, and the place stays.
-pub record ReadAt {A : Type 0} (test : List ℕ → Bool) (value_of_lem : List ℕ → A) (none : A) (line : List ℕ) (at : ℕ)
+pub record ReadAt {A : Type 0} (test : List ℕ → Bool) (value_of : List ℕ → A) (none : A) (line : List ℕ) (at : ℕ)
     (formed : Bool) (value : A) (next : ℕ) : Type 0 where
   pub formed_is : formed ≡ test (field_at line at)
-  pub value_is : value ≡ cond (test (field_at line at)) (value_of_lem (field_at line at)) none
+  pub value_is : value ≡ cond (test (field_at line at)) (value_of (field_at line at)) none
   pub next_is : next ≡ cond (test (field_at line at)) (field_end line at + 1) at
 
 -- the first field: whether it is a side, which one, and where the next field starts

@@ -1,4 +1,6 @@
 // The field that starts at a place of a job line, as the side or as a number.
+#![tactic(auto)]
+
 ghost use Rattle.std.specs.Prelude.{◌≡◌, get_or};
 ghost use Rattle.math.specs.Number.{zero_float};
 ghost use Rattle.format.specs.Fields;
@@ -8,7 +10,7 @@ ghost use Rattle.format.specs.Numerals.{is_float, float_of, is_count, count_of};
 ghost use Rattle.format_fields.specs.Places.{ReadAt, SideOf};
 
 // The side, and where the next field starts.
-#[derive(Drop)]
+#[derive(Clone, Copy)]
 pub struct Side {
     pub formed: bool,
     pub outward: bool,
@@ -16,7 +18,7 @@ pub struct Side {
 }
 
 // A count, and where the next field starts.
-#[derive(Drop)]
+#[derive(Clone, Copy)]
 pub struct CountAt {
     pub formed: bool,
     pub value: usize,
@@ -24,7 +26,7 @@ pub struct CountAt {
 }
 
 // A float, and where the next field starts.
-#[derive(Drop)]
+#[derive(Clone, Copy)]
 pub struct FloatAt {
     pub formed: bool,
     pub value: f64,

@@ -23,19 +23,19 @@ job_no = refl
 
 -- ---- the tests of a walk
 
-module _ {A : Type 0} (test : List ℕ → Bool) (value_of_lem : List ℕ → A) where
+module _ {A : Type 0} (test : List ℕ → Bool) (value_of : List ℕ → A) where
   one_sound : (b : Bool) (xs ys : List A) → (cond b (going xs) (left ys)).sound ≡ b
   one_sound true xs ys = refl
   one_sound false xs ys = refl
 
-  taken_sound : (fs : List (List ℕ)) (n : ℕ) (before : List A) → (taken test value_of_lem fs n before).sound ≡ rounds (λ k s. s && test (get_or fs k [])) n true
+  taken_sound : (fs : List (List ℕ)) (n : ℕ) (before : List A) → (taken test value_of fs n before).sound ≡ rounds (λ k s. s && test (get_or fs k [])) n true
   unfolding taken take_number rounds
   taken_sound fs zero before = refl
   taken_sound fs (suc n) before =
-      one_sound ((taken test value_of_lem fs n before).sound && test (get_or fs n [])) (set (taken test value_of_lem fs n before).out n (value_of_lem (get_or fs n []))) (taken test value_of_lem fs n before).out
+      one_sound ((taken test value_of fs n before).sound && test (get_or fs n [])) (set (taken test value_of fs n before).out n (value_of (get_or fs n []))) (taken test value_of fs n before).out
       ∙ ap (λ (b : Bool). b && test (get_or fs n [])) (taken_sound fs n before)
 
-  pub taken_tests : (fs : List (List ℕ)) (m n : ℕ) (before : List A) → (taken test value_of_lem (drop m fs) n before).sound ≡ rounds (λ k s. s && test (get_or fs (m + k) [])) n true
+  pub taken_tests : (fs : List (List ℕ)) (m n : ℕ) (before : List A) → (taken test value_of (drop m fs) n before).sound ≡ rounds (λ k s. s && test (get_or fs (m + k) [])) n true
   taken_tests fs m n before =
       taken_sound (drop m fs) n before
       ∙ rounds_same (λ k s. s && test (get_or (drop m fs) k [])) (λ k s. s && test (get_or fs (m + k) [])) n true (λ k l s. ap (λ (f : List ℕ). s && test f) (get_or-drop m fs k []))

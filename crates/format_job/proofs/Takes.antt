@@ -44,99 +44,99 @@ going out = record { sound = true; out = out }
 abbrev pub left : {A : Type 0} → List A → Taken A
 left out = record { sound = false; out = out }
 
-module _ {A : Type 0} (test : List ℕ → Bool) (value_of_lem : List ℕ → A) (fs : List (List ℕ)) (k : ℕ) where
-  taken_yes : (value : A) (out after : List A) → test (get_or fs k []) ≡ true → value ≡ value_of_lem (get_or fs k []) → after ≡ set out k value
-      → going after ≡ take_number test value_of_lem fs k (going out)
+module _ {A : Type 0} (test : List ℕ → Bool) (value_of : List ℕ → A) (fs : List (List ℕ)) (k : ℕ) where
+  taken_yes : (value : A) (out after : List A) → test (get_or fs k []) ≡ true → value ≡ value_of (get_or fs k []) → after ≡ set out k value
+      → going after ≡ take_number test value_of fs k (going out)
   unfolding take_number
   taken_yes value out after t v a =
       ap (λ (xs : List A). going xs) (a ∙ ap (λ (x : A). set out k x) v)
-      ∙ ap (λ (b : Bool). cond b (going (set out k (value_of_lem (get_or fs k [])))) (left out)) (sym t)
+      ∙ ap (λ (b : Bool). cond b (going (set out k (value_of (get_or fs k [])))) (left out)) (sym t)
 
-  taken_no : (out : List A) → test (get_or fs k []) ≡ false → left out ≡ take_number test value_of_lem fs k (going out)
+  taken_no : (out : List A) → test (get_or fs k []) ≡ false → left out ≡ take_number test value_of fs k (going out)
   unfolding take_number
-  taken_no out t = ap (λ (b : Bool). cond b (going (set out k (value_of_lem (get_or fs k [])))) (left out)) (sym t)
+  taken_no out t = ap (λ (b : Bool). cond b (going (set out k (value_of (get_or fs k [])))) (left out)) (sym t)
 
-  taken_left : (out : List A) → take_number test value_of_lem fs k (left out) ≡ left out
+  taken_left : (out : List A) → take_number test value_of fs k (left out) ≡ left out
   unfolding take_number
   taken_left out = refl
 
 -- ---- k fields
 
 abbrev pub WalkTo : {A : Type 0} → (List ℕ → Bool) → (List ℕ → A) → List ℕ → List (List ℕ) → List A → ℕ → ℕ → List A → Type 0
-WalkTo test value_of_lem line fs before k at out = (going out ≡ rounds (take_number test value_of_lem fs) k (going before)) × (fields_from line at ≡ drop k fs)
+WalkTo test value_of line fs before k at out = (going out ≡ rounds (take_number test value_of fs) k (going before)) × (fields_from line at ≡ drop k fs)
 
-module _ {A : Type 0} (test : List ℕ → Bool) (value_of_lem : List ℕ → A) (none : A) (line : List ℕ) (fs : List (List ℕ)) (before : List A) where
-  pub begins : (start : ℕ) → fields_from line start ≡ fs → WalkTo test value_of_lem line fs before 0 start before
-  begins start e = (sym (no_round (take_number test value_of_lem fs) (going before)), e)
+module _ {A : Type 0} (test : List ℕ → Bool) (value_of : List ℕ → A) (none : A) (line : List ℕ) (fs : List (List ℕ)) (before : List A) where
+  pub begins : (start : ℕ) → fields_from line start ≡ fs → WalkTo test value_of line fs before 0 start before
+  begins start e = (sym (no_round (take_number test value_of fs) (going before)), e)
 
-  pub took : (k at : ℕ) (formed : Bool) (value : A) (next : ℕ) (out after : List A) → test [] ≡ false → ReadAt test value_of_lem none line at formed value next
-      → formed ≡ true → after ≡ set out k value → WalkTo test value_of_lem line fs before k at out → WalkTo test value_of_lem line fs before (k + 1) next after
+  pub took : (k at : ℕ) (formed : Bool) (value : A) (next : ℕ) (out after : List A) → test [] ≡ false → ReadAt test value_of none line at formed value next
+      → formed ≡ true → after ≡ set out k value → WalkTo test value_of line fs before k at out → WalkTo test value_of line fs before (k + 1) next after
   took k at formed value next out after e r t w (s, f) = (
-    goes_on (take_number test value_of_lem fs) (going before) (going out) (going after) k s
-        (taken_yes test value_of_lem fs k value out after
+    goes_on (take_number test value_of fs) (going before) (going out) (going after) k s
+        (taken_yes test value_of fs k value out after
         (sym (ap test here) ∙ sym r.formed_is ∙ t)
-        (value_read test value_of_lem none line at formed value next t r ∙ ap value_of_lem here)
+        (value_read test value_of none line at formed value next t r ∙ ap value_of here)
         w),
-    fields_next line fs k at f next (rest_read test value_of_lem none line at formed value next e t r),
+    fields_next line fs k at f next (rest_read test value_of none line at formed value next e t r),
   )
     where
       here : field_at line at ≡ get_or fs k []
       here = field_here line fs k at f
 
-  pub stopped : (k n at : ℕ) (formed : Bool) (value : A) (next : ℕ) (out : List A) → k < n → ReadAt test value_of_lem none line at formed value next
-      → formed ≡ false → WalkTo test value_of_lem line fs before k at out → left out ≡ rounds (take_number test value_of_lem fs) n (going before)
+  pub stopped : (k n at : ℕ) (formed : Bool) (value : A) (next : ℕ) (out : List A) → k < n → ReadAt test value_of none line at formed value next
+      → formed ≡ false → WalkTo test value_of line fs before k at out → left out ≡ rounds (take_number test value_of fs) n (going before)
   stopped k n at formed value next out l r t (s, f) =
-      sym (stays_to (take_number test value_of_lem fs) (going before) (left out) (k + 1) n (one k l)
-      (sym (goes_on (take_number test value_of_lem fs) (going before) (going out) (left out) k s
-      (taken_no test value_of_lem fs k out (sym (ap test (field_here line fs k at f)) ∙ sym r.formed_is ∙ t))))
-      (λ (i : ℕ). taken_left test value_of_lem fs i out))
+      sym (stays_to (take_number test value_of fs) (going before) (left out) (k + 1) n (one k l)
+      (sym (goes_on (take_number test value_of fs) (going before) (going out) (left out) k s
+      (taken_no test value_of fs k out (sym (ap test (field_here line fs k at f)) ∙ sym r.formed_is ∙ t))))
+      (λ (i : ℕ). taken_left test value_of fs i out))
     where
       one : (i : ℕ) → i < n → i + 1 ≤ n
       one i h = omega arith
 
 -- ---- what the walks hand back
 
-module _ {A : Type 0} (test : List ℕ → Bool) (value_of_lem : List ℕ → A) (none : A) (line : List ℕ) (start : ℕ) (before : List A) where
-  pub walked : (k n at : ℕ) (out : List A) → k ≤ n → n ≤ k → WalkTo test value_of_lem line (fields_from line start) before k at out
-      → WalkedAt test value_of_lem line start n before out true at
+module _ {A : Type 0} (test : List ℕ → Bool) (value_of : List ℕ → A) (none : A) (line : List ℕ) (start : ℕ) (before : List A) where
+  pub walked : (k n at : ℕ) (out : List A) → k ≤ n → n ≤ k → WalkTo test value_of line (fields_from line start) before k at out
+      → WalkedAt test value_of line start n before out true at
   unfolding taken
   walked k n at out l m (s, f) =
-      let e = ends (take_number test value_of_lem (fields_from line start)) (going before) (going out) k n l m s in
+      let e = ends (take_number test value_of (fields_from line start)) (going before) (going out) k n l m s in
       record {
         sound_is = ap (λ (t : Taken A). t.sound) e;
         after_is = ap (λ (t : Taken A). t.out) e;
         rest = λ _. f ∙ ap (λ (i : ℕ). drop i (fields_from line start)) (le_antisymm l m);
       }
 
-  pub not_walked : (k n at : ℕ) (formed : Bool) (value : A) (next last : ℕ) (out : List A) → k < n → ReadAt test value_of_lem none line at formed value next → formed ≡ false
-      → WalkTo test value_of_lem line (fields_from line start) before k at out → WalkedAt test value_of_lem line start n before out false last
+  pub not_walked : (k n at : ℕ) (formed : Bool) (value : A) (next last : ℕ) (out : List A) → k < n → ReadAt test value_of none line at formed value next → formed ≡ false
+      → WalkTo test value_of line (fields_from line start) before k at out → WalkedAt test value_of line start n before out false last
   unfolding taken
   not_walked k n at formed value next last out l r t w =
-      let e = stopped test value_of_lem none line (fields_from line start) before k n at formed value next out l r t w in
+      let e = stopped test value_of none line (fields_from line start) before k n at formed value next out l r t w in
       record {
         sound_is = ap (λ (t : Taken A). t.sound) e;
         after_is = ap (λ (t : Taken A). t.out) e;
         rest = λ (f : false ≡ true). absurd (false≢true f);
       }
 
-  pub all_walked : (k at : ℕ) (out : List A) → k ≤ length (fields_from line start) → length line < at → WalkTo test value_of_lem line (fields_from line start) before k at out
-      → AllAt test value_of_lem line start before out true k
+  pub all_walked : (k at : ℕ) (out : List A) → k ≤ length (fields_from line start) → length line < at → WalkTo test value_of line (fields_from line start) before k at out
+      → AllAt test value_of line start before out true k
   unfolding taken
   all_walked k at out l m (s, f) =
       let g = none_left line (fields_from line start) k at f m in
-      let e = ends (take_number test value_of_lem (fields_from line start)) (going before) (going out) k (length (fields_from line start)) l g s in
+      let e = ends (take_number test value_of (fields_from line start)) (going before) (going out) k (length (fields_from line start)) l g s in
       record {
         sound_is = ap (λ (t : Taken A). t.sound) e;
         after_is = ap (λ (t : Taken A). t.out) e;
         count_is = λ _. le_antisymm l g;
       }
 
-  pub not_all : (k at : ℕ) (formed : Bool) (value : A) (next count : ℕ) (out : List A) → at ≤ length line → ReadAt test value_of_lem none line at formed value next → formed ≡ false
-      → WalkTo test value_of_lem line (fields_from line start) before k at out → AllAt test value_of_lem line start before out false count
+  pub not_all : (k at : ℕ) (formed : Bool) (value : A) (next count : ℕ) (out : List A) → at ≤ length line → ReadAt test value_of none line at formed value next → formed ≡ false
+      → WalkTo test value_of line (fields_from line start) before k at out → AllAt test value_of line start before out false count
   unfolding taken
   not_all k at formed value next count out h r t w =
       let l = some_left line (fields_from line start) k at w.1 h in
-      let e = stopped test value_of_lem none line (fields_from line start) before k (length (fields_from line start)) at formed value next out l r t w in
+      let e = stopped test value_of none line (fields_from line start) before k (length (fields_from line start)) at formed value next out l r t w in
       record {
         sound_is = ap (λ (t : Taken A). t.sound) e;
         after_is = ap (λ (t : Taken A). t.out) e;
@@ -155,6 +155,6 @@ pub no_room : {A : Type 0} (out : List A) (k : ℕ) (x : A) → length out ≤ k
 no_room out k x h = sym (set_out out k x h)
 
 -- a walk that only looks: a store to no memory at all is left out
-pub passed : {A : Type 0} (test : List ℕ → Bool) (value_of_lem : List ℕ → A) (none : A) (line : List ℕ) (fs : List (List ℕ)) (k at : ℕ) (formed : Bool) (value : A) (next : ℕ)
-    → test [] ≡ false → ReadAt test value_of_lem none line at formed value next → formed ≡ true → WalkTo test value_of_lem line fs [] k at [] → WalkTo test value_of_lem line fs [] (k + 1) next []
-passed test value_of_lem none line fs k at formed value next e r t w = took test value_of_lem none line fs [] k at formed value next [] [] e r t (no_room [] k value zero-le) w
+pub passed : {A : Type 0} (test : List ℕ → Bool) (value_of : List ℕ → A) (none : A) (line : List ℕ) (fs : List (List ℕ)) (k at : ℕ) (formed : Bool) (value : A) (next : ℕ)
+    → test [] ≡ false → ReadAt test value_of none line at formed value next → formed ≡ true → WalkTo test value_of line fs [] k at [] → WalkTo test value_of line fs [] (k + 1) next []
+passed test value_of none line fs k at formed value next e r t w = took test value_of none line fs [] k at formed value next [] [] e r t (no_room [] k value zero-le) w

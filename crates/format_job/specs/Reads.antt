@@ -62,27 +62,27 @@ pub record Taken (A : Type 0) : Type 0 where
   pub out : List A
 
 unfoldable pub take_number : {A : Type 0} → (List ℕ → Bool) → (List ℕ → A) → List (List ℕ) → ℕ → Taken A → Taken A
-take_number test value_of_lem fs k s =
+take_number test value_of fs k s =
     cond (s.sound && test (get_or fs k []))
-    (record { sound = true; out = set s.out k (value_of_lem (get_or fs k [])) })
+    (record { sound = true; out = set s.out k (value_of (get_or fs k [])) })
     (record { sound = false; out = s.out })
 
 -- the first n fields of fs
 unfoldable pub taken : {A : Type 0} → (List ℕ → Bool) → (List ℕ → A) → List (List ℕ) → ℕ → List A → Taken A
-taken test value_of_lem fs n out = rounds (take_number test value_of_lem fs) n (record { sound = true; out = out })
+taken test value_of fs n out = rounds (take_number test value_of fs) n (record { sound = true; out = out })
 
 -- n fields from a place on, read to memory: as defined, and then where the next field starts. A walk that only looks has no memory.
-pub record WalkedAt {A : Type 0} (test : List ℕ → Bool) (value_of_lem : List ℕ → A) (line : List ℕ) (start n : ℕ)
+pub record WalkedAt {A : Type 0} (test : List ℕ → Bool) (value_of : List ℕ → A) (line : List ℕ) (start n : ℕ)
     (before after : List A) (sound : Bool) (next : ℕ) : Type 0 where
-  pub sound_is : sound ≡ (taken test value_of_lem (fields_from line start) n before).sound
-  pub after_is : after ≡ (taken test value_of_lem (fields_from line start) n before).out
+  pub sound_is : sound ≡ (taken test value_of (fields_from line start) n before).sound
+  pub after_is : after ≡ (taken test value_of (fields_from line start) n before).out
   pub rest : sound ≡ true → fields_from line next ≡ drop n (fields_from line start)
 
 -- every field from a place on: as defined, and then how many there are
-pub record AllAt {A : Type 0} (test : List ℕ → Bool) (value_of_lem : List ℕ → A) (line : List ℕ) (start : ℕ)
+pub record AllAt {A : Type 0} (test : List ℕ → Bool) (value_of : List ℕ → A) (line : List ℕ) (start : ℕ)
     (before after : List A) (sound : Bool) (count : ℕ) : Type 0 where
-  pub sound_is : sound ≡ (taken test value_of_lem (fields_from line start) (length (fields_from line start)) before).sound
-  pub after_is : after ≡ (taken test value_of_lem (fields_from line start) (length (fields_from line start)) before).out
+  pub sound_is : sound ≡ (taken test value_of (fields_from line start) (length (fields_from line start)) before).sound
+  pub after_is : after ≡ (taken test value_of (fields_from line start) (length (fields_from line start)) before).out
   pub count_is : sound ≡ true → count ≡ length (fields_from line start)
 
 -- ---- the lists of a line: the fields after its ring count

@@ -3,7 +3,7 @@ ghost use Rattle.std.specs.Prelude.{◌≡◌, false};
 ghost use Rattle.format_job.specs.Reads.{HeadOf};
 
 // The head, and where the first vertex count starts.
-#[derive(Drop)]
+#[derive(Clone, Copy)]
 pub(crate) struct Head {
     pub formed: bool,
     pub outward: bool,

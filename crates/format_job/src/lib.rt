@@ -1,4 +1,6 @@
 // Reading a job line: a walk from field to field by place that looks at all of it, and a second one that writes its numbers to lent memory.
+#![tactic(auto)]
+
 ghost use Rattle.std.specs.Prelude.{◌≡◌};
 ghost use Rattle.format_job.specs.Reads;
 
@@ -9,7 +11,7 @@ mod lists;
 mod walk;
 
 // What a job line says: Granted, the side, the distance, how many rings and how many coordinates; or the refusal, and the rest false and 0.
-#[derive(Drop)]
+#[derive(Clone, Copy)]
 pub struct Parsed {
     pub refusal: Refusal,
     pub outward: bool,

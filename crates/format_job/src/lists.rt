@@ -6,7 +6,7 @@ use crate::walk;
 use error::Refusal;
 
 // 22 or 20 of the lists, and how many coordinates were stored.
-#[derive(Drop)]
+#[derive(Clone, Copy)]
 pub(crate) struct Lists {
     pub refusal: Refusal,
     pub count: usize,

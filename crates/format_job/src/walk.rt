@@ -4,14 +4,14 @@ ghost use Rattle.format.specs.Numerals.{is_float, float_of, is_count, count_of};
 ghost use Rattle.format_job.specs.Reads.{WalkedAt, AllAt};
 
 // Whether each field was a count, and then where the next one starts.
-#[derive(Drop)]
+#[derive(Clone, Copy)]
 pub(crate) struct CountWalk {
     pub sound: bool,
     pub next: usize,
 }
 
 // Whether each field was a float, and then how many there are.
-#[derive(Drop)]
+#[derive(Clone, Copy)]
 pub(crate) struct FloatWalk {
     pub sound: bool,
     pub count: usize,

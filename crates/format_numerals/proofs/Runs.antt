@@ -75,21 +75,21 @@ pub room : (base k n value d : ℕ) → base ≤ 16 → d < 16 → k < n → val
 room base k n value d b l m h =
     lt_of_lt_of_le (subst (λ (x : ℕ). value * base + d < x) (sym (pow-suc 16 k)) (wider base k value d b l h)) (pow-le-pow_right (lit< tt) m)
 
-module _ (base : ℕ) (test : ℕ → Bool) (value_of_lem : ℕ → ℕ) (field : List ℕ) where
-  pub none : RunTo base test value_of_lem field 0 true 0
+module _ (base : ℕ) (test : ℕ → Bool) (value_of : ℕ → ℕ) (field : List ℕ) where
+  pub none : RunTo base test value_of field 0 true 0
   unfolding rounds
   none = record { sound_is = refl; value_is = λ _. refl; small = subst (λ (x : ℕ). 0 < x) (sym (pow-zero 16)) (lit< tt) }
 
-  pub more : (k : ℕ) (sound t : Bool) (value d : ℕ) → base ≤ 16 → d < 16 → t ≡ test (get_or field k 0) → (test (get_or field k 0) ≡ true → d ≡ value_of_lem (get_or field k 0))
-      → RunTo base test value_of_lem field k sound value → RunTo base test value_of_lem field (k + 1) (sound && t) (value * base + d)
+  pub more : (k : ℕ) (sound t : Bool) (value d : ℕ) → base ≤ 16 → d < 16 → t ≡ test (get_or field k 0) → (test (get_or field k 0) ≡ true → d ≡ value_of (get_or field k 0))
+      → RunTo base test value_of field k sound value → RunTo base test value_of field (k + 1) (sound && t) (value * base + d)
   more k sound t value d b l e v h =
       record {
         sound_is = goes_on (λ i s. s && test (get_or field i 0)) true sound (sound && t) k h.sound_is (ap (λ (x : Bool). sound && x) e);
         value_is = λ (f : (sound && t) ≡ true).
-            goes_on (λ i n. base * n + value_of_lem (get_or field i 0)) 0 value (value * base + d) k (h.value_is (and_elim_left sound t f))
-            (ap (λ (x : ℕ). value * base + x) (v (sym e ∙ and_elim_right sound t f)) ∙ ap (λ (x : ℕ). x + value_of_lem (get_or field k 0)) (mul_comm value base));
+            goes_on (λ i n. base * n + value_of (get_or field i 0)) 0 value (value * base + d) k (h.value_is (and_elim_left sound t f))
+            (ap (λ (x : ℕ). value * base + x) (v (sym e ∙ and_elim_right sound t f)) ∙ ap (λ (x : ℕ). x + value_of (get_or field k 0)) (mul_comm value base));
         small = subst (λ (x : ℕ). value * base + d < x) (sym (ap (λ (i : ℕ). 16 ^ i) (add-one k) ∙ pow-suc 16 k)) (wider base k value d b l h.small);
       }
 
-  pub whole : (k n : ℕ) (sound : Bool) (value : ℕ) → k ≤ n → n ≤ k → RunTo base test value_of_lem field k sound value → RunTo base test value_of_lem field n sound value
-  whole k n sound value l m h = subst (λ (i : ℕ). RunTo base test value_of_lem field i sound value) (le_antisymm l m) h
+  pub whole : (k n : ℕ) (sound : Bool) (value : ℕ) → k ≤ n → n ≤ k → RunTo base test value_of field k sound value → RunTo base test value_of field n sound value
+  whole k n sound value l m h = subst (λ (i : ℕ). RunTo base test value_of field i sound value) (le_antisymm l m) h

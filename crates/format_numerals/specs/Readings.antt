@@ -21,10 +21,10 @@ unfoldable pub count_or : List ℕ → ℕ
 count_or field = cond (is_count field) (count_of field) 0
 
 -- The first k digits of a field, in a base up to 16: whether each of them passes the test, and then the number that they are
-pub record RunTo (base : ℕ) (test : ℕ → Bool) (value_of_lem : ℕ → ℕ) (field : List ℕ) (k : ℕ) (sound : Bool) (value : ℕ) :
+pub record RunTo (base : ℕ) (test : ℕ → Bool) (value_of : ℕ → ℕ) (field : List ℕ) (k : ℕ) (sound : Bool) (value : ℕ) :
     Type 0 where
   pub sound_is : sound ≡ rounds (λ i s. s && test (get_or field i 0)) k true
-  pub value_is : sound ≡ true → value ≡ rounds (λ i n. base * n + value_of_lem (get_or field i 0)) k 0
+  pub value_is : sound ≡ true → value ≡ rounds (λ i n. base * n + value_of (get_or field i 0)) k 0
   pub small : value < 16 ^ k
 
 -- opens every definition above, for a proof that computes with all of them

@@ -1,28 +1,30 @@
 // The numbers of a job line: 16 hexadecimal digits as a float, 1 to 3 decimal digits as a count.
+#![tactic(auto)]
+
 ghost use Rattle.std.specs.Prelude.{◌≡◌, ◌≤◌, length};
 ghost use Rattle.std.specs.Float.{binary64};
 ghost use Rattle.std.specs.Float.Ieee.{of_bits};
 ghost use Rattle.format.specs.Numerals;
-ghost use Rattle.format.specs.Numerals.{is_hex, hex_value, is_decimal, decimal_value, is_float, is_count};
+ghost use Rattle.format.specs.Numerals.{hex_value, decimal_value, is_float, is_count};
 ghost use Rattle.format_numerals.specs.Readings;
 ghost use Rattle.format_numerals.specs.Readings.{RunTo};
 
 // A field as a float: whether it is well formed, and its value; 0 where it is not.
-#[derive(Drop)]
+#[derive(Clone, Copy)]
 pub struct FloatField {
     pub formed: bool,
     pub value: f64,
 }
 
 // A field as a count: whether it is well formed, and its value; 0 where it is not.
-#[derive(Drop)]
+#[derive(Clone, Copy)]
 pub struct CountField {
     pub formed: bool,
     pub value: usize,
 }
 
 // Digits as a number: whether each is one, and then their value.
-#[derive(Drop)]
+#[derive(Clone, Copy)]
 pub(crate) struct Run {
     pub sound: bool,
     pub value: usize,
@@ -58,7 +60,7 @@ pub(crate) fn decimal_part(b: u8) -> usize
 
 pub(crate) fn hex_run(field: &[u8]) -> Run
     requires { length field.now ≡ 16 }
-    ensures { RunTo 16 is_hex hex_value field.now 16 result.sound result.value }
+    ensures { RunTo 16 Numerals.is_hex hex_value field.now 16 result.sound result.value }
 {
     let mut sound = true;
     let mut value = 0usize;
@@ -76,7 +78,7 @@ pub(crate) fn hex_run(field: &[u8]) -> Run
 
 pub(crate) fn decimal_run(field: &[u8]) -> Run
     requires { length field.now ≤ 3 }
-    ensures { RunTo 10 is_decimal decimal_value field.now (length field.now) result.sound result.value }
+    ensures { RunTo 10 Numerals.is_decimal decimal_value field.now (length field.now) result.sound result.value }
 {
     let mut sound = true;
     let mut value = 0usize;

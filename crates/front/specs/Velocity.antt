@@ -1,5 +1,5 @@
 -- What tidying leaves: nothing more to take out, and a velocity for every live vertex. So only tidying itself ever meets a vertex without
--- one, and 17 inside the walk of an offset comes from there alone. Proved in proofs/Demand, `same_bits` in Moves.antt and `front-velocity`
+-- one, and 17 inside the walk of an offset comes from there alone. Proved in proofs/Demand, `same_bits` in Moves.antt and `front_velocity`
 -- in Whole.antt. Assumes nothing.
 use Rattle.std.specs.Prelude.{◌≡◌, ◌≢◌, true, false, List, ℕ, Float}
 use Rattle.std.specs.Float.Ieee.{neg}

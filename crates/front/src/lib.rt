@@ -1,10 +1,11 @@
 // The front of an offset: 128 edges, linked into rings, which move at unit speed until they come to the distance.
+#![tactic(auto)]
 
 use error::Refusal;
 use plane::PlanarPoint;
 
 // The line of an edge: unit direction u, left normal n, n · x = c.
-#[derive(Drop)]
+#[derive(Clone, Copy)]
 pub struct Line {
     pub u0: f64,
     pub u1: f64,
@@ -14,7 +15,7 @@ pub struct Line {
 }
 
 // An edge of the front, linked into its ring, with its start vertex as of the offset `since`.
-#[derive(Drop)]
+#[derive(Clone, Copy)]
 pub struct Edge {
     pub line: Line,
     pub previous: usize,
@@ -54,28 +55,28 @@ impl Edge {
 }
 
 // A line, if the two points differ.
-#[derive(Drop)]
+#[derive(Clone, Copy)]
 pub enum Through {
     NoLine,
     Along(Line),
 }
 
 // A point or a velocity, if there is one.
-#[derive(Drop)]
+#[derive(Clone, Copy)]
 pub enum Place {
     Nowhere,
     There(PlanarPoint),
 }
 
 // A start vertex and its velocity, if it has one.
-#[derive(Drop)]
+#[derive(Clone, Copy)]
 pub enum Vertex {
     NoVertex,
     Moving(PlanarPoint, PlanarPoint),
 }
 
 // An edge's length and its rate of change, if its ends have velocities.
-#[derive(Drop)]
+#[derive(Clone, Copy)]
 pub enum Length {
     NoLength,
     Long(f64, f64),
@@ -83,7 +84,7 @@ pub enum Length {
 
 // What a tidying step removes, and at which slot: nothing; a ring of fewer than three edges; the second of two neighbours that face the
 // same way; both of two that face opposite ways; an edge of no length that does not grow.
-#[derive(Drop)]
+#[derive(Clone, Copy)]
 pub enum Tidy {
     Settled,
     SmallRing(usize),
@@ -93,20 +94,20 @@ pub enum Tidy {
 }
 
 // The soonest collapse, and the soonest split, found so far.
-#[derive(Drop)]
+#[derive(Clone, Copy)]
 pub enum SoonestCollapse {
     NoCollapse,
     CollapseAfter(usize, f64),
 }
 
-#[derive(Drop)]
+#[derive(Clone, Copy)]
 pub enum SoonestSplit {
     NoSplit,
     SplitAfter(usize, usize, f64),
 }
 
 // The search for the next event. `stalled`: a vertex that it needed has no velocity.
-#[derive(Drop)]
+#[derive(Clone, Copy)]
 pub struct EventSearch {
     pub stalled: bool,
     pub collapse: SoonestCollapse,
@@ -114,7 +115,7 @@ pub struct EventSearch {
 }
 
 // The next event, and how much further it lies. `Stalled`: a vertex has no velocity; `Never`: nothing shrinks and nothing is hit.
-#[derive(Drop)]
+#[derive(Clone, Copy)]
 pub enum Event {
     Stalled,
     Never,
@@ -123,7 +124,7 @@ pub enum Event {
 }
 
 // A walk round a ring of the front: where it is, how many edges it has passed, and whether it has come round.
-#[derive(Drop)]
+#[derive(Clone, Copy)]
 pub struct Round {
     pub at: usize,
     pub count: usize,
@@ -131,7 +132,7 @@ pub struct Round {
 }
 
 // A walk from one edge of the front that looks for another: it ends where it comes round or finds it.
-#[derive(Drop)]
+#[derive(Clone, Copy)]
 pub struct Reach {
     pub at: usize,
     pub found: bool,
@@ -140,7 +141,7 @@ pub struct Reach {
 
 // The front after a step. `stalled`: a vertex that the step needed has no velocity, and nothing was changed; `changed`: whether tidying
 // took something out.
-#[derive(Drop)]
+#[derive(Clone, Copy)]
 pub struct Front {
     pub edges: [Edge; 128],
     pub stalled: bool,
@@ -148,7 +149,7 @@ pub struct Front {
 }
 
 // The front while the rings load: the slots taken and the rings begun so far.
-#[derive(Drop)]
+#[derive(Clone, Copy)]
 pub struct Loaded {
     pub edges: [Edge; 128],
     pub used: usize,
@@ -157,7 +158,7 @@ pub struct Loaded {
 }
 
 // The front between two events: how far it has travelled, what it has completed, and whether it has come to the distance.
-#[derive(Drop)]
+#[derive(Clone, Copy)]
 pub struct Sweep {
     pub edges: [Edge; 128],
     pub travelled: f64,
@@ -169,7 +170,7 @@ pub struct Sweep {
 }
 
 // A ring of the finished front while it is walked: its vertices, and the slots passed in this ring and the earlier ones.
-#[derive(Drop)]
+#[derive(Clone, Copy)]
 pub struct Walk {
     pub at: usize,
     pub seen: [bool; 128],

@@ -1,6 +1,8 @@
 // The edges of the front: reads, stores and whole actions on the array. A link that leads out of the front reads the unused edge, and a
 // store there is left out.
 // A call that takes the array copies it, so an action reads and stores in place.
+#![tactic(auto)]
+
 ghost use Rattle.std.specs.Prelude.{◌<◌, ◌≡◌, cond, ltb};
 ghost use Rattle.front.specs.Edges;
 

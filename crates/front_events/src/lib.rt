@@ -1,4 +1,6 @@
 // The search for the next event of the front: the soonest collapse and the soonest split.
+#![tactic(auto)]
+
 ghost use Rattle.std.specs.Prelude.{◌≡◌, cond};
 ghost use Rattle.front.specs.NextEvent;
 ghost use Rattle.front.specs.declared.Event.TheVariants.{Never};
@@ -8,14 +10,14 @@ use front::{Edge, Event, Length, Line, Vertex};
 use plane::PlanarPoint;
 
 // Whether a vertex hits an edge. `lost`: a vertex of the edge has no velocity.
-#[derive(Drop)]
+#[derive(Clone, Copy)]
 pub struct Struck {
     pub lost: bool,
     pub on: bool,
 }
 
 // Whether an edge is gone sooner than the soonest so far, and after which step. `lost`: an end has no velocity.
-#[derive(Drop)]
+#[derive(Clone, Copy)]
 pub struct Gone {
     pub lost: bool,
     pub sooner: bool,
@@ -23,7 +25,7 @@ pub struct Gone {
 }
 
 // A live edge: whether and when it is gone, as in `Gone`; its start vertex, and whether the front turns right there.
-#[derive(Drop)]
+#[derive(Clone, Copy)]
 pub struct Look {
     pub lost: bool,
     pub sooner: bool,
@@ -34,7 +36,7 @@ pub struct Look {
 }
 
 // A start vertex that moves.
-#[derive(Drop)]
+#[derive(Clone, Copy)]
 pub struct Corner {
     pub at: PlanarPoint,
     pub velocity: PlanarPoint,

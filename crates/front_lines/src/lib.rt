@@ -1,5 +1,7 @@
 // The line of an edge; the velocity and the meeting point of two lines; the start vertex and the length of an edge, whose neighbours are
 // given by value.
+#![tactic(auto)]
+
 ghost use Rattle.std.specs.Prelude.{◌≡◌, cond};
 ghost use Rattle.front.specs.declared.Length.TheVariants.{Long};
 ghost use Rattle.front.specs.declared.Place.TheVariants.{Nowhere, There};

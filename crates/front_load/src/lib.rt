@@ -1,4 +1,6 @@
 // The rings of a shape are loaded into the front, edge by edge.
+#![tactic(auto)]
+
 ghost use Rattle.std.specs.Prelude.{◌≡◌, ◌+◌, ◌^◌, ◌<◌};
 ghost use Rattle.front.specs.Lines;
 ghost use Rattle.front.specs.Loading;

@@ -1,4 +1,6 @@
 // The split of a front: the vertex that runs into an edge cuts it in two, with a copy of the edge in a free slot.
+#![tactic(auto)]
+
 ghost use Rattle.std.specs.Prelude.{◌≡◌, set};
 ghost use Rattle.front.specs.Splitting;
 ghost use Rattle.front.specs.Sweeps;

@@ -9,34 +9,29 @@ use borrow.Author.Tests.{ltb-true, ltb-false}
 use lib.Dec.{ltb}
 use lib.Ieee.{Float}
 use Rattle.error.specs.declared.Refusal.{Refusal}
-use Rattle.error.specs.declared.Refusal.TheVariants.{Granted, Splits, Unfinished}
+use Rattle.error.specs.declared.Refusal.TheVariants.{Granted, Splits}
 use Rattle.error.specs.Refusals.{granted, number, values}
-use Rattle.math.specs.Number
-use Rattle.math.specs.Number.{zero_float}
 use Rattle.base.specs.Loop.{rounds}
 use Rattle.base.proofs.Laws.{no_round}
-use Rattle.plane.specs.declared.PlanarPoint.{PlanarPoint}
 use Rattle.front.specs.declared.Edge.{Edge}
 use Rattle.front.specs.declared.Front.{Front}
-use Rattle.front.specs.declared.Loaded.{Loaded}
 use Rattle.front.specs.declared.Sweep.{Sweep}
 use Rattle.front.specs.declared.Tidy.{Tidy}
 use Rattle.front.specs.declared.Tidy.TheVariants.{Settled, SmallRing, Straight, Spike, Empty}
 use Rattle.front.specs.declared.Vertex.{Vertex}
 use Rattle.front.specs.declared.Vertex.TheVariants.{NoVertex, Moving}
 use Rattle.front.specs.Edges.{edge, altered, stalled, anchor_at, anchor, then_remove, collapse, vertex}
-use Rattle.front.specs.Loading.{no_front}
 use Rattle.front.specs.declared.Event.{Event}
 use Rattle.front.specs.declared.Event.TheVariants.{Never}
 use Rattle.front.specs.NextEvent.{next_event}
 use Rattle.front.specs.Tidying.{find_tidy, drop_straight, drop_both, spike_to, spike_from, drop_spike, drop_ring, tidy_by, tidy_step, tidy}
-use Rattle.front.specs.Sweeps.{split, sweep_step, finished, offset_rings}
+use Rattle.front.specs.Sweeps.{split, sweep_step, finished}
 use Rattle.front_split.specs.Begun.{begun}
 use Rattle.front_sweep.specs.declared.Plan.{Plan}
 use Rattle.front_sweep.specs.declared.Plan.TheVariants.{Refuse, End, TakeCollapse, TakeSplit}
 use Rattle.front_sweep.specs.Planning.{plan_of}
 use Rattle.front_sweep.proofs.Stages.{Parted}
-use Rattle.front_sweep.proofs.Loop.{swept, loaded, not_loaded, After, last, unfinished, refuses, reaches, collapse_lost, collapses, parts, split_lost, split_on}
+use Rattle.front_sweep.proofs.Loop.{swept, After, refuses, reaches, collapse_lost, collapses, parts, split_lost, split_on}
 use Rattle.front_tidy.specs.Findings.{settled}
 use Rattle.front_tidy.proofs.TidyRounds.{unchanged, tidy_none, tidy_ends, tidy_goes, tidy_all}
 use Rattle.front_sweep.specs.declared.Act.{Act}

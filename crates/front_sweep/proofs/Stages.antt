@@ -11,7 +11,6 @@ use Rattle.math.specs.Number.{add}
 use Rattle.error.specs.declared.Refusal.{Refusal}
 use Rattle.error.specs.declared.Refusal.TheVariants.{Granted, Slots, Splits}
 use Rattle.error.specs.Refusals.{granted, number, values}
-use Rattle.plane.specs.declared.PlanarPoint.{PlanarPoint}
 use Rattle.front.specs.declared.Edge.{Edge}
 use Rattle.front.specs.declared.Event.{Event}
 use Rattle.front.specs.declared.Event.TheVariants.{Stalled, Never, Collapse, Split}

@@ -1,4 +1,6 @@
 // The main loop of an offset on one array: a front is tidied and its edges collapse where they are, and it is copied only where it splits.
+#![tactic(auto)]
+
 ghost use Rattle.std.specs.Prelude.{◌≡◌, cond, length};
 ghost use Rattle.std.specs.Float.Ieee.{le};
 ghost use Rattle.front.specs.Sweeps;
@@ -10,7 +12,7 @@ use error::Refusal;
 use front::{Edge, Event, Loaded, Sweep, Tidy, Vertex};
 
 // What is planned for a tidied front: it is refused, or has come to the distance, or an event is taken at an offset.
-#[derive(Drop)]
+#[derive(Clone, Copy)]
 pub enum Plan {
     Refuse,
     End,
@@ -20,7 +22,7 @@ pub enum Plan {
 
 // What is done with the front: it is refused, or has come to the distance; an edge collapses, by an event or by tidying, itself or its
 // next; the front splits; tidying drops a ring too small, or a spike.
-#[derive(Drop)]
+#[derive(Clone, Copy)]
 pub enum Act {
     Stop,
     Finish,

@@ -12,7 +12,7 @@ use Rattle.front_lines.specs.Moving.{length_between}
 unfoldable pub short : ℕ → Edge → Edge → Bool
 short slot e after = eqb e.next slot || eqb after.next slot
 
--- `tidy-corner` and `tidy-edge`, from the four edges that they read
+-- `tidy_corner` and `tidy_edge`, from the four edges that they read
 unfoldable pub corner_between : ℕ → Float → Edge → Edge → Edge → Edge → Tidy
 corner_between slot t before e beside after =
     cond (opposed (direction (edge_line e)) (direction (edge_line after))) (Spike slot)

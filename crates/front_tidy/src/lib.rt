@@ -1,4 +1,6 @@
 // Tidying: rings too small, straight vertices, spikes and edges of no length are taken out of the front, one after the other.
+#![tactic(auto)]
+
 ghost use Rattle.std.specs.Prelude.{◌≡◌};
 ghost use Rattle.front.specs.Tidying;
 ghost use Rattle.front.specs.declared.Tidy.TheVariants.{Spike};

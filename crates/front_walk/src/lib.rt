@@ -1,4 +1,6 @@
 // The walk round one ring of a front that has come to the distance.
+#![tactic(auto)]
+
 ghost use Rattle.std.specs.Prelude.{◌≡◌};
 ghost use Rattle.front.specs.Edges;
 ghost use Rattle.front.specs.Finished;

@@ -1,4 +1,4 @@
--- THE THEOREM, `hypot-is-nearest`: the statement of `specs/Nearest.antt`. Assumes nothing.
+-- THE THEOREM, `hypot_is_nearest`: the statement of `specs/Nearest.antt`. Assumes nothing.
 use mathlib.Core.Path.{◌≡◌, refl, sym, ◌∙◌, subst}
 use mathlib.Core.Logic.{◌⊎◌, inl, inr, ⊎_elim}
 use mathlib.Core.Bool.{Bool, true, false, cond}

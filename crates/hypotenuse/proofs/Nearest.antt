@@ -1,4 +1,4 @@
--- The definition is the nearest: `nearest-root`, for every s; and where it is infinity: `overflows`. Assumes nothing.
+-- The definition is the nearest: `nearest_root`, for every s; and where it is infinity: `overflows`. Assumes nothing.
 use mathlib.Core.Path.{◌≡◌, refl, sym, ap, ◌∙◌, subst}
 use mathlib.Core.Logic.{◌⊎◌, inl, inr}
 use mathlib.Core.Bool.{not}

@@ -26,7 +26,7 @@ unfoldable pub round_root : Format → ℕ → Float
 unfolding dropped kept units
 round_root f s = units f false (kept f s (dropped f s)) (dropped f s)
 
--- m * 2 ^ e in units of the smallest double: exact for every finite double (`count-exact`), subnormal ones too
+-- m * 2 ^ e in units of the smallest double: exact for every finite double (`count_exact`), subnormal ones too
 abbrev pub count : ℕ → ℤ → ℕ
 count m e = m * up e * 2 ^ low binary64 / down e
 

@@ -1,4 +1,6 @@
 // The answer line of a job, to lent bytes: `no` and the number, or `ok`, the ring count, the vertex counts and the coordinates.
+#![tactic(auto)]
+
 ghost use Rattle.std.specs.Prelude.{◌≡◌, true, [], ◌+◌, ◌*◌, ◌≤◌, get_or, length, take};
 ghost use Rattle.format_digits.specs.Stores.{put};
 ghost use Rattle.format.specs.Lines;
@@ -8,7 +10,7 @@ use error::Refusal;
 use region::RegionOffset;
 
 // What a write to lent bytes answers, and how many bytes were written.
-#[derive(Drop)]
+#[derive(Clone, Copy)]
 pub struct Answered {
     pub refusal: Refusal,
     pub count: usize,
@@ -174,7 +176,7 @@ pub(crate) fn ok_line<'a>(
     ensures answered { result ≡ Writing.bytes_answered (Writing.shape_bytes outer.now count points.now counts.now holes)
         out.old }
     ensures written { out.new ≡ Lines.bytes_written
-        (Writing.shape-bytes outer.now count points.now counts.now holes) out.old }
+        (Writing.shape_bytes outer.now count points.now counts.now holes) out.old }
 {
     let head = head_size(count, counts, holes);
     let inner = head + 34 * count;

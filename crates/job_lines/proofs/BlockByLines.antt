@@ -1,14 +1,14 @@
 -- One line of a block as code, and the whole block. Assumes nothing.
 use Prim.Native.Nat.{ℕ, zero, suc, ◌+◌, ◌-◌, ◌≤◌, ◌<◌}
-use native.Mathlib.Nat.{le_trans, le_of_eq, le_of_lt, le_antisymm, add-le-add, le_refl}
+use native.Mathlib.Nat.{le_antisymm, add-le-add, le_refl}
 use native.Mathlib.Omega.{arith}
 use native.Mathlib.Numerals.{add-one-le}
-use mathlib.Core.Bool.{Bool, true, false, cond, not, ◌&&◌, false≢true}
+use mathlib.Core.Bool.{Bool, true, false, cond, not, false≢true}
 use mathlib.Core.Path.{◌≡◌, refl, sym, ap, ◌∙◌, subst}
-use mathlib.Core.List.{List, [], ◌∷◌, ◌++◌}
-use lib.Dec.{leb, ltb, eqb}
+use mathlib.Core.List.{List}
+use lib.Dec.{leb, eqb}
 use lib.ListN.{length, take, drop}
-use borrow.Author.Tests.{le-leb, lt-leb, leb-true, ltb-true, not-true, not-false, eqb-true}
+use borrow.Author.Tests.{le-leb, lt-leb, ltb-true, not-true, not-false}
 use Rattle.base.specs.Loop.{rounds}
 use Rattle.base.proofs.Laws.{next_round, stays_to}
 use Rattle.format_digits.specs.Stores.{put}
@@ -16,7 +16,7 @@ use Rattle.job.specs.Stream.{answered}
 use Rattle.job_stream.specs.declared.Next.{Next}
 use Rattle.job_stream.specs.declared.Outcome.{Outcome}
 use Rattle.job_stream.specs.declared.Outcome.TheVariants.{Whole, Unheld, Miscounted}
-use Rattle.job_stream.specs.Feeding.{before_feed, line_end, line_part, most_held, count_with, is_ended, is_direct, next_count, next_held, next_bytes, next_of, Feed, feed_cut, feed_answered, feed_full, feed_ended, feed_line, feed_step}
+use Rattle.job_stream.specs.Feeding.{before_feed, line_end, line_part, count_with, is_ended, is_direct, next_count, next_held, next_bytes, next_of, Feed, feed_cut, feed_answered, feed_full, feed_ended, feed_line, feed_step}
 use Rattle.job_stream.specs.Feeding.{feed_start, fed, how_ended, memory_outcome}
 use Rattle.job_stream.proofs.Parts.{end_from}
 use Rattle.job_stream.proofs.Machine.{part_most, feeds_to}

@@ -1,4 +1,6 @@
 // One line of bytes to one line of bytes, and the stream of lines.
+#![tactic(auto)]
+
 ghost use Rattle.std.specs.Prelude.{◌≡◌, true, ◌+◌, ◌≤◌, length};
 ghost use Rattle.format.specs.Lines;
 ghost use Rattle.job.specs.AnswerLines;
@@ -12,7 +14,7 @@ use job_answer::Answered;
 use job_stream::{Next, Outcome};
 
 // Whether an answer fitted the lent bytes, how many are used then, and how many it has with its LF.
-#[derive(Drop)]
+#[derive(Clone, Copy)]
 pub struct Put {
     pub fits: bool,
     pub used: usize,
@@ -21,7 +23,7 @@ pub struct Put {
 
 // How many bytes of a block are taken, how many of a cut line are held, how many bytes of the output are used, and how many the answer
 // needs that did not fit.
-#[derive(Drop)]
+#[derive(Clone, Copy)]
 pub struct Taken {
     pub at: usize,
     pub count: usize,
@@ -30,7 +32,7 @@ pub struct Taken {
 }
 
 // How many bytes of a block are taken, how many of a cut line are held, how many bytes of the output are used, and how the call ended.
-#[derive(Drop)]
+#[derive(Clone, Copy)]
 pub struct Fed {
     pub taken: usize,
     pub count: usize,
@@ -39,14 +41,14 @@ pub struct Fed {
 }
 
 // At the end of the input: how many bytes of the output are used, and how the call ended.
-#[derive(Drop)]
+#[derive(Clone, Copy)]
 pub struct Last {
     pub used: usize,
     pub outcome: Outcome,
 }
 
 // One line of a block; `more` where the next one may follow.
-#[derive(Drop)]
+#[derive(Clone, Copy)]
 pub struct Step {
     pub at: usize,
     pub count: usize,
@@ -187,11 +189,11 @@ pub(crate) fn feed_line<'a>(
     requires count_bound { count ≤ 16385 }
     requires at_in_bounds { at ≤ length block.now }
     ensures told { result ≡ Wire.step_told
-        (Feeding.feed-line block.now (Wire.feed-of at held.old count out.old used)) }
+        (Feeding.feed_line block.now (Wire.feed_of at held.old count out.old used)) }
     ensures held { held.new ≡ Wire.held_of
-        (Feeding.feed-line block.now (Wire.feed-of at held.old count out.old used)) }
+        (Feeding.feed_line block.now (Wire.feed_of at held.old count out.old used)) }
     ensures written { out.new ≡ Wire.out_of
-        (Feeding.feed-line block.now (Wire.feed-of at held.old count out.old used)) }
+        (Feeding.feed_line block.now (Wire.feed_of at held.old count out.old used)) }
 {
     let next = job_stream::next_line(block, at, held, count);
     let stop = next.stop;

@@ -1,4 +1,6 @@
 // A job on numbers: with one ring an outline's offset, with more a region's inset.
+#![tactic(auto)]
+
 ghost use Rattle.std.specs.Prelude.{◌≡◌};
 ghost use Rattle.job.specs.Jobs;
 ghost use Rattle.job_run.specs.Fitting;

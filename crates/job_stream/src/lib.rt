@@ -1,4 +1,6 @@
 // The stream of lines: where the next line of a block ends, and the bytes of one that a block's end cuts, in lent memory.
+#![tactic(auto)]
+
 ghost use Rattle.std.specs.Prelude.{◌≡◌};
 ghost use Rattle.job_stream.specs.Feeding;
 
@@ -6,7 +8,7 @@ use error::Refusal;
 
 // The line's part of the block ends at `stop`, before an LF if `ended`. A line that is `direct` is that part; any other is now held,
 // `count` bytes of it.
-#[derive(Drop)]
+#[derive(Clone, Copy)]
 pub struct Next {
     pub stop: usize,
     pub ended: bool,
@@ -18,7 +20,7 @@ pub struct Next {
 // answer does not fit what is left of the output; it carries how many bytes that answer has with its LF. `Unheld`: the memory lent for a
 // cut line has fewer than 16,385 bytes; `Miscounted`: more than 16,385 are said to be held, which no call hands back. Of these two nothing
 // is done.
-#[derive(Drop)]
+#[derive(Clone, Copy)]
 pub enum Outcome {
     Whole,
     Full(usize),

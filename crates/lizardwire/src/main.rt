@@ -1,10 +1,14 @@
 // Job lines on standard input, one answer line a job on standard output.
+#![tactic(auto)]
+
 ghost use Rattle.std.specs.Prelude.{◌≤◌, ◌≡◌, length};
 ghost use Rattle.lizardwire.specs.Program;
 
+use std::io::{Read, Write};
+
 // After a round over a block: how many of its bytes are taken, how many of a cut line are held, and how many bytes of the output are to be
 // written.
-#[derive(Drop)]
+#[derive(Clone, Copy)]
 struct Round {
     at: usize,
     count: usize,
@@ -12,22 +16,11 @@ struct Round {
 }
 
 // The bytes of a cut line that are held, whether there is more input, and whether a read or a write failed.
-#[derive(Drop)]
+#[derive(Clone, Copy)]
 struct Run {
     count: usize,
     more: bool,
     failed: bool,
-}
-
-fn say_failed() {
-    io::write_all(
-        2,
-        &[
-            b'l', b'i', b'z', b'a', b'r', b'd', b'w', b'i', b'r', b'e', b':', b' ', b'r', b'e',
-            b'a', b'd', b' ', b'o', b'r', b' ', b'w', b'r', b'i', b't', b'e', b' ', b'e', b'r',
-            b'r', b'o', b'r', b'\n',
-        ],
-    );
 }
 
 // One round of the loop over a block: the lines from `at` on, as many as have their answers in the output.
@@ -52,7 +45,13 @@ fn next_round<'a>(
 }
 
 // Round after round, until the block is taken; the answers of each are written before the next. Each round takes a byte at least.
-fn feed_block<'a>(block: &'a [u8], held: &'a mut [u8], count: usize, out: &'a mut [u8]) -> Run
+fn feed_block<'a, W: Write>(
+    block: &'a [u8],
+    held: &'a mut [u8],
+    count: usize,
+    out: &'a mut [u8],
+    to: &'a mut W,
+) -> Run
     requires in_bounds { 16385 ≤ length held.old }
     requires count_bound { count ≤ 16385 }
     requires in_bounds_2 { 16385 ≤ length out.old }
@@ -64,7 +63,7 @@ fn feed_block<'a>(block: &'a [u8], held: &'a mut [u8], count: usize, out: &'a mu
         let t = next_round(block, at, held, have, out);
         have = t.count;
         at = t.at;
-        if !io::write_all(1, &out[..t.used]) {
+        if to.write_all(&out[..t.used]).is_err() {
             return Run {
                 count: have,
                 more: false,
@@ -80,41 +79,50 @@ fn feed_block<'a>(block: &'a [u8], held: &'a mut [u8], count: usize, out: &'a mu
 }
 
 // The end of the input: a last line without LF is answered.
-fn end_input<'a>(held: &'a [u8], count: usize, out: &'a mut [u8]) -> Run
+fn end_input<'a, W: Write>(held: &'a [u8], count: usize, out: &'a mut [u8], to: &'a mut W) -> Run
     ensures { result.count ≡ 0 }
 {
     let last = job_lines::finish(held, count, out);
     Run {
         count: 0,
         more: false,
-        failed: !io::write_all(1, &out[..last.used]),
+        failed: to.write_all(&out[..last.used]).is_err(),
     }
 }
 
 // Reads once; `more` is false at the end of the input.
-fn read_some<'a>(block: &'a mut [u8], held: &'a mut [u8], count: usize, out: &'a mut [u8]) -> Run
+fn read_some<'a, R: Read, W: Write>(
+    from: &'a mut R,
+    block: &'a mut [u8],
+    held: &'a mut [u8],
+    count: usize,
+    out: &'a mut [u8],
+    to: &'a mut W,
+) -> Run
     requires in_bounds { 16385 ≤ length held.old }
     requires count_bound { count ≤ 16385 }
     requires in_bounds_2 { 16385 ≤ length out.old }
     ensures { result.count ≤ 16385 }
 {
-    let got = libc::read(0, block);
-    if got < 0 {
-        return Run {
+    match from.read(block) {
+        Err(_) => Run {
             count: count,
             more: false,
             failed: true,
-        };
+        },
+        Ok(0) => end_input(held, count, out, to),
+        Ok(n) => feed_block(&block[..n], held, count, out, to),
     }
-    if got == 0 {
-        return end_input(held, count, out);
-    }
-    let n = io::count(got, block);
-    feed_block(&block[..n], held, count, out)
 }
 
 // A proved loop has to end: it counts its rounds down, from a number that no run uses up.
-fn read_all<'a>(block: &'a mut [u8], held: &'a mut [u8], out: &'a mut [u8]) -> bool
+fn read_all<'a, R: Read, W: Write>(
+    from: &'a mut R,
+    block: &'a mut [u8],
+    held: &'a mut [u8],
+    out: &'a mut [u8],
+    to: &'a mut W,
+) -> bool
     requires in_bounds { 16385 ≤ length held.old }
     requires in_bounds_2 { 16385 ≤ length out.old }
 {
@@ -122,7 +130,7 @@ fn read_all<'a>(block: &'a mut [u8], held: &'a mut [u8], out: &'a mut [u8]) -> b
     let mut rounds = u64::MAX;
     while rounds > 0 {
         rounds -= 1;
-        let r = read_some(block, held, count, out);
+        let r = read_some(from, block, held, count, out, to);
         count = r.count;
         if r.failed {
             return true;
@@ -134,11 +142,13 @@ fn read_all<'a>(block: &'a mut [u8], held: &'a mut [u8], out: &'a mut [u8]) -> b
     false
 }
 
-fn main() {
-    let mut block = io::large_buffer();
-    let mut out = io::large_buffer();
+fn main(rt: HostRuntime) {
+    let mut from = rt.stdin();
+    let mut to = rt.stdout();
+    let mut block = [0u8; 65536];
+    let mut out = [0u8; 65536];
     let mut held = [0u8; 16385];
-    if read_all(&mut block, &mut held, &mut out) {
-        say_failed();
+    if read_all(&mut from, &mut block, &mut held, &mut out, &mut to) {
+        let _ = eprintln!(rt; "lizardwire: read or write error");
     }
 }

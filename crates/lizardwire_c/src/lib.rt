@@ -1,4 +1,6 @@
 // Functions for C and for Rust, over numbers and slices. Each is a call of a proved function, with its contract.
+#![tactic(auto)]
+
 ghost use Rattle.std.specs.Prelude.{◌≡◌, true, false, length};
 ghost use Rattle.hypotenuse.specs.Hypot;
 ghost use Rattle.outline.specs.Outlines;
@@ -22,24 +24,21 @@ pub(crate) fn given(numbers: &[f64]) -> Outline
 }
 
 // The version of the functions for C.
-#[unsafe(no_mangle)]
-pub extern "C" fn lw_version() -> usize
+pub fn lw_version() -> usize
     ensures { result ≡ Exports.version }
 {
     4
 }
 
 // math::hypot.
-#[unsafe(no_mangle)]
-pub extern "C" fn lw_hypot(x: f64, y: f64) -> f64
+pub fn lw_hypot(x: f64, y: f64) -> f64
     ensures { result ≡ Hypot.hypot x y }
 {
     math::hypot(x, y)
 }
 
 // Whether these numbers are an outline, and of how many vertices: questions 1, 2, 4 to 7, 27, 8 and 9.
-#[unsafe(no_mangle)]
-pub extern "C" fn lw_check(numbers: &[f64]) -> LwOutline
+pub fn lw_check(numbers: &[f64]) -> LwOutline
     ensures { result ≡ Exports.checked (Outlines.outline numbers.now) }
 {
     let made = outline_lent::direct::check_outline(numbers);
@@ -48,8 +47,7 @@ pub extern "C" fn lw_check(numbers: &[f64]) -> LwOutline
 }
 
 // The outline of these numbers, written to `out`: questions 1, 2, 4 to 7, 27, 8 and 9, then 20.
-#[unsafe(no_mangle)]
-pub extern "C" fn lw_outline(numbers: &[f64], out: &mut [f64]) -> LwOutline
+pub fn lw_outline(numbers: &[f64], out: &mut [f64]) -> LwOutline
     ensures answered { result ≡ Exports.told_outline (Outlines.outline numbers.now) out.old }
     ensures written { out.new ≡ Exports.over_outline (Outlines.outline numbers.now) out.old }
 {
@@ -59,8 +57,7 @@ pub extern "C" fn lw_outline(numbers: &[f64], out: &mut [f64]) -> LwOutline
 }
 
 // Where a point lies in an outline handed in: 21, then 2 of the point.
-#[unsafe(no_mangle)]
-pub extern "C" fn lw_contains(outline: &[f64], east: f64, north: f64) -> LwPlace
+pub fn lw_contains(outline: &[f64], east: f64, north: f64) -> LwPlace
     ensures { result ≡ Exports.told_place (Queries.contains outline.now (Exports.vertices (length outline.now))
         (record { east = east; north = north })) }
 {
@@ -75,8 +72,7 @@ pub extern "C" fn lw_contains(outline: &[f64], east: f64, north: f64) -> LwPlace
 }
 
 // The nearest point of the boundary of an outline handed in: 21, then 2 of the point.
-#[unsafe(no_mangle)]
-pub extern "C" fn lw_nearest(outline: &[f64], east: f64, north: f64) -> LwNearest
+pub fn lw_nearest(outline: &[f64], east: f64, north: f64) -> LwNearest
     ensures { result ≡ Exports.told_nearest (Queries.nearest outline.now (Exports.vertices (length outline.now))
         (record { east = east; north = north })) }
 {
@@ -91,8 +87,7 @@ pub extern "C" fn lw_nearest(outline: &[f64], east: f64, north: f64) -> LwNeares
 }
 
 // The area of an outline handed in: 21.
-#[unsafe(no_mangle)]
-pub extern "C" fn lw_area(outline: &[f64]) -> LwArea
+pub fn lw_area(outline: &[f64]) -> LwArea
     ensures { result ≡ Exports.told_area (Queries.area outline.now (Exports.vertices (length outline.now))) }
 {
     let a = outline_sizes::area(outline, told::vertices(outline.len()));
@@ -102,8 +97,7 @@ pub extern "C" fn lw_area(outline: &[f64]) -> LwArea
 }
 
 // The length of the boundary of an outline handed in: 21.
-#[unsafe(no_mangle)]
-pub extern "C" fn lw_perimeter(outline: &[f64]) -> LwLength
+pub fn lw_perimeter(outline: &[f64]) -> LwLength
     ensures { result ≡ Exports.told_length (Queries.perimeter outline.now (Exports.vertices (length outline.now))) }
 {
     let a = outline_sizes::perimeter(outline, told::vertices(outline.len()));
@@ -112,8 +106,7 @@ pub extern "C" fn lw_perimeter(outline: &[f64]) -> LwLength
 }
 
 // The largest coordinate of an outline handed in, without its sign: 21.
-#[unsafe(no_mangle)]
-pub extern "C" fn lw_extent(outline: &[f64]) -> LwLength
+pub fn lw_extent(outline: &[f64]) -> LwLength
     ensures { result ≡ Exports.told_length (Queries.extent outline.now (Exports.vertices (length outline.now))) }
 {
     let a = outline_sizes::extent(outline, told::vertices(outline.len()));
@@ -122,8 +115,7 @@ pub extern "C" fn lw_extent(outline: &[f64]) -> LwLength
 }
 
 // The clearance of two outlines handed in (R-1): 21 of the first, then of the second.
-#[unsafe(no_mangle)]
-pub extern "C" fn lw_clearance<'a>(first: &'a [f64], second: &'a [f64]) -> LwLength
+pub fn lw_clearance<'a>(first: &'a [f64], second: &'a [f64]) -> LwLength
     ensures { result ≡ Exports.told_length (Queries.clearance first.now (Exports.vertices (length first.now))
         second.now (Exports.vertices (length second.now))) }
 {
@@ -135,8 +127,7 @@ pub extern "C" fn lw_clearance<'a>(first: &'a [f64], second: &'a [f64]) -> LwLen
 }
 
 // Whether two outlines handed in meet, and by which edges (R-3): 21 of the first, then of the second.
-#[unsafe(no_mangle)]
-pub extern "C" fn lw_meeting<'a>(first: &'a [f64], second: &'a [f64]) -> LwMeeting
+pub fn lw_meeting<'a>(first: &'a [f64], second: &'a [f64]) -> LwMeeting
     ensures { result ≡ Exports.told_meeting (Queries.meeting first.now (Exports.vertices (length first.now))
         second.now (Exports.vertices (length second.now))) }
 {
@@ -148,8 +139,7 @@ pub extern "C" fn lw_meeting<'a>(first: &'a [f64], second: &'a [f64]) -> LwMeeti
 }
 
 // Vertex k of an outline handed in: 21.
-#[unsafe(no_mangle)]
-pub extern "C" fn lw_vertex(outline: &[f64], k: usize) -> LwPoint
+pub fn lw_vertex(outline: &[f64], k: usize) -> LwPoint
     ensures { result ≡ Exports.told_point (Queries.vertex outline.now (Exports.vertices (length outline.now)) k) }
 {
     let a = outline_ask::vertex(outline, told::vertices(outline.len()), k);
@@ -159,8 +149,7 @@ pub extern "C" fn lw_vertex(outline: &[f64], k: usize) -> LwPoint
 }
 
 // Edge k of an outline handed in: 21.
-#[unsafe(no_mangle)]
-pub extern "C" fn lw_edge(outline: &[f64], k: usize) -> LwEdge
+pub fn lw_edge(outline: &[f64], k: usize) -> LwEdge
     ensures { result ≡ Exports.told_edge (Queries.edge outline.now (Exports.vertices (length outline.now)) k) }
 {
     let a = outline_ask::edge(outline, told::vertices(outline.len()), k);
@@ -171,8 +160,7 @@ pub extern "C" fn lw_edge(outline: &[f64], k: usize) -> LwEdge
 }
 
 // The inset of an outline handed in, written to `out`: 21, 13, 14, what the offset answers, then 20.
-#[unsafe(no_mangle)]
-pub extern "C" fn lw_inset(outline: &[f64], distance: f64, out: &mut [f64]) -> LwOffset
+pub fn lw_inset(outline: &[f64], distance: f64, out: &mut [f64]) -> LwOffset
     ensures answered { result ≡ Exports.lw_offset false outline.now distance out.old }
     ensures written { out.new ≡ Exports.lw_offset_out false outline.now distance out.old }
 {
@@ -182,8 +170,7 @@ pub extern "C" fn lw_inset(outline: &[f64], distance: f64, out: &mut [f64]) -> L
 }
 
 // The outset, likewise.
-#[unsafe(no_mangle)]
-pub extern "C" fn lw_outset(outline: &[f64], distance: f64, out: &mut [f64]) -> LwOffset
+pub fn lw_outset(outline: &[f64], distance: f64, out: &mut [f64]) -> LwOffset
     ensures answered { result ≡ Exports.lw_offset true outline.now distance out.old }
     ensures written { out.new ≡ Exports.lw_offset_out true outline.now distance out.old }
 {

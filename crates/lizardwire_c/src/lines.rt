@@ -10,8 +10,7 @@ use stream_c::LwFed;
 use told::LwLine;
 
 // The answer line of a job line, both without LF, written to `out`: question 20 last. A refused job is an answer, too.
-#[unsafe(no_mangle)]
-pub extern "C" fn lw_job_line(line: &[u8], out: &mut [u8]) -> LwLine
+pub fn lw_job_line(line: &[u8], out: &mut [u8]) -> LwLine
     ensures answered { result ≡ Exports.told_line (Writing.bytes_answered (AnswerLines.answer_line line.now) out.old) }
     ensures written { out.new ≡ Lines.bytes_written (AnswerLines.answer_line line.now) out.old }
 {
@@ -21,8 +20,7 @@ pub extern "C" fn lw_job_line(line: &[u8], out: &mut [u8]) -> LwLine
 }
 
 // Makes the state of a stream of job lines in lent bytes: question 20 of them.
-#[unsafe(no_mangle)]
-pub extern "C" fn lw_stream(state: &mut [u8]) -> LwLine
+pub fn lw_stream(state: &mut [u8]) -> LwLine
     ensures answered { result ≡ Calls.made state.old }
     ensures state { state.new ≡ Calls.made_state state.old }
 {
@@ -30,8 +28,7 @@ pub extern "C" fn lw_stream(state: &mut [u8]) -> LwLine
 }
 
 // The next bytes of a stream: 20 and 21 of the state, then 20 where not even the first answer fits the output.
-#[unsafe(no_mangle)]
-pub extern "C" fn lw_feed<'a>(block: &'a [u8], state: &'a mut [u8], out: &'a mut [u8]) -> LwFed
+pub fn lw_feed<'a>(block: &'a [u8], state: &'a mut [u8], out: &'a mut [u8]) -> LwFed
     ensures answered { result ≡ Calls.lw_feed block.now state.old out.old }
     ensures state { state.new ≡ Calls.lw_feed_state block.now state.old out.old }
     ensures written { out.new ≡ Calls.lw_feed_out block.now state.old out.old }
@@ -40,8 +37,7 @@ pub extern "C" fn lw_feed<'a>(block: &'a [u8], state: &'a mut [u8], out: &'a mut
 }
 
 // The end of a stream: 20 and 21 of the state, then 20 of the output.
-#[unsafe(no_mangle)]
-pub extern "C" fn lw_finish<'a>(state: &'a mut [u8], out: &'a mut [u8]) -> LwFed
+pub fn lw_finish<'a>(state: &'a mut [u8], out: &'a mut [u8]) -> LwFed
     ensures answered { result ≡ Calls.lw_finish state.old out.old }
     ensures state { state.new ≡ Calls.lw_finish_state state.old out.old }
     ensures written { out.new ≡ Calls.lw_finish_out state.old out.old }

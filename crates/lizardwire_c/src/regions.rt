@@ -13,12 +13,7 @@ use region::{InsetWritten, RegionWritten};
 use told::{LwArea, LwLength, LwNearest, LwOutline, LwPlace, LwRegion, LwRegionOffset};
 
 // The region of these numbers, ring after ring, written to `out`: questions 1 to 12 and 27, then 20.
-#[unsafe(no_mangle)]
-pub extern "C" fn lw_region<'a>(
-    numbers: &'a [f64],
-    lengths: &'a [usize],
-    out: &'a mut [f64],
-) -> LwRegion
+pub fn lw_region<'a>(numbers: &'a [f64], lengths: &'a [usize], out: &'a mut [f64]) -> LwRegion
     ensures answered { result ≡ Told.lw_region lengths.now numbers.now out.old }
     ensures written { out.new ≡ Told.lw_region_out lengths.now numbers.now out.old }
 {
@@ -29,8 +24,7 @@ pub extern "C" fn lw_region<'a>(
 }
 
 // The inset of the region of these numbers, written to `out`: questions 1 to 12 and 27, then 13 to 19, then 20.
-#[unsafe(no_mangle)]
-pub extern "C" fn lw_region_inset<'a>(
+pub fn lw_region_inset<'a>(
     numbers: &'a [f64],
     lengths: &'a [usize],
     distance: f64,
@@ -46,12 +40,7 @@ pub extern "C" fn lw_region_inset<'a>(
 }
 
 // The region of given outlines, ring after ring, written to `out`: 21, 10 to 12, then 20.
-#[unsafe(no_mangle)]
-pub extern "C" fn lw_given_region<'a>(
-    numbers: &'a [f64],
-    counts: &'a [usize],
-    out: &'a mut [f64],
-) -> LwRegion
+pub fn lw_given_region<'a>(numbers: &'a [f64], counts: &'a [usize], out: &'a mut [f64]) -> LwRegion
     ensures answered { result ≡ Told.lw_given_region counts.now numbers.now out.old }
     ensures written { out.new ≡ Told.lw_given_region_out counts.now numbers.now out.old }
 {
@@ -62,8 +51,7 @@ pub extern "C" fn lw_given_region<'a>(
 }
 
 // A given outline as a region without holes, written to `out`: 21, then 20.
-#[unsafe(no_mangle)]
-pub extern "C" fn lw_without_holes<'a>(outline: &'a [f64], out: &'a mut [f64]) -> LwRegion
+pub fn lw_without_holes<'a>(outline: &'a [f64], out: &'a mut [f64]) -> LwRegion
     ensures answered { result ≡ Told.lw_without_holes outline.now out.old }
     ensures written { out.new ≡ Told.lw_without_holes_out outline.now out.old }
 {
@@ -74,8 +62,7 @@ pub extern "C" fn lw_without_holes<'a>(outline: &'a [f64], out: &'a mut [f64]) -
 }
 
 // The rings of a region handed in, and the vertices of each: 21.
-#[unsafe(no_mangle)]
-pub extern "C" fn lw_stored_region<'a>(numbers: &'a [f64], counts: &'a [usize]) -> LwRegion
+pub fn lw_stored_region<'a>(numbers: &'a [f64], counts: &'a [usize]) -> LwRegion
     ensures { result ≡ Told.lw_stored_region counts.now numbers.now }
 {
     let w: RegionWritten = region_c::stored(counts, numbers);
@@ -85,8 +72,7 @@ pub extern "C" fn lw_stored_region<'a>(numbers: &'a [f64], counts: &'a [usize]) 
 }
 
 // The inset of a region handed in, written to `out`: 21, 13 to 19, then 20.
-#[unsafe(no_mangle)]
-pub extern "C" fn lw_stored_region_inset<'a>(
+pub fn lw_stored_region_inset<'a>(
     numbers: &'a [f64],
     counts: &'a [usize],
     distance: f64,
@@ -102,8 +88,7 @@ pub extern "C" fn lw_stored_region_inset<'a>(
 }
 
 // Where a point lies in a region handed in: 21, then 2 of the point.
-#[unsafe(no_mangle)]
-pub extern "C" fn lw_region_contains<'a>(
+pub fn lw_region_contains<'a>(
     numbers: &'a [f64],
     counts: &'a [usize],
     east: f64,
@@ -123,8 +108,7 @@ pub extern "C" fn lw_region_contains<'a>(
 }
 
 // The nearest point of the boundary of a region handed in: 21, then 2 of the point.
-#[unsafe(no_mangle)]
-pub extern "C" fn lw_region_nearest<'a>(
+pub fn lw_region_nearest<'a>(
     numbers: &'a [f64],
     counts: &'a [usize],
     east: f64,
@@ -144,8 +128,7 @@ pub extern "C" fn lw_region_nearest<'a>(
 }
 
 // The area of a region handed in: 21.
-#[unsafe(no_mangle)]
-pub extern "C" fn lw_region_area<'a>(numbers: &'a [f64], counts: &'a [usize]) -> LwArea
+pub fn lw_region_area<'a>(numbers: &'a [f64], counts: &'a [usize]) -> LwArea
     ensures { result ≡ Told.told_measure (Queries.region_area (Told.handed counts.now numbers.now)) }
 {
     let a: Measured = region_c::area(counts, numbers);
@@ -154,8 +137,7 @@ pub extern "C" fn lw_region_area<'a>(numbers: &'a [f64], counts: &'a [usize]) ->
 }
 
 // The length of the boundary of a region handed in: 21.
-#[unsafe(no_mangle)]
-pub extern "C" fn lw_region_perimeter<'a>(numbers: &'a [f64], counts: &'a [usize]) -> LwLength
+pub fn lw_region_perimeter<'a>(numbers: &'a [f64], counts: &'a [usize]) -> LwLength
     ensures { result ≡ Exports.told_length (Queries.region_perimeter (Told.handed counts.now numbers.now)) }
 {
     let a: Measured = region_c::perimeter(counts, numbers);
@@ -164,12 +146,7 @@ pub extern "C" fn lw_region_perimeter<'a>(numbers: &'a [f64], counts: &'a [usize
 }
 
 // The outer ring of a region handed in, written to `out`: 21, then 20.
-#[unsafe(no_mangle)]
-pub extern "C" fn lw_region_outer<'a>(
-    numbers: &'a [f64],
-    counts: &'a [usize],
-    out: &'a mut [f64],
-) -> LwOutline
+pub fn lw_region_outer<'a>(numbers: &'a [f64], counts: &'a [usize], out: &'a mut [f64]) -> LwOutline
     ensures answered { result ≡ Told.told_ring (Direct.told (Queries.region_outer (Told.handed counts.now numbers.now))
         out.old) }
     ensures written { out.new ≡ Direct.over_outline (Queries.region_outer (Told.handed counts.now numbers.now))
@@ -181,8 +158,7 @@ pub extern "C" fn lw_region_outer<'a>(
 }
 
 // Hole k of a region handed in, written to `out`: 21, then 20. Where there are no more than k, nothing is written.
-#[unsafe(no_mangle)]
-pub extern "C" fn lw_region_hole<'a>(
+pub fn lw_region_hole<'a>(
     numbers: &'a [f64],
     counts: &'a [usize],
     k: usize,

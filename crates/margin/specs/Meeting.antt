@@ -16,7 +16,7 @@ use Rattle.region.specs.Regions.{ring_points, ring_count}
 use Rattle.region.specs.Insets.{region_inset}
 use Rattle.margin.specs.Margin.{Doubles, RegionDoubles}
 
--- no two edges of a ring that are no neighbours share a point, and no two neighbours fold back, as `folds-back` has it
+-- no two edges of a ring that are no neighbours share a point, and no two neighbours fold back, as `folds_back` has it
 pub record MeetsNotItself (ps : List Float) (n : ℕ) : Type 0 where
   pub strangers : (i j : ℕ) → Strangers n i j → EdgesShare ps n false i j → ⊥
   pub neighbours : (i j : ℕ) → i < j → j < n → Folded ps n false i j → ⊥

@@ -1,4 +1,4 @@
--- The margin from one edge, over the floats as `closest-on-segment` works them out: an edge that is not tiny with the foot that is computed,
+-- The margin from one edge, over the floats as `closest_on_segment` works them out: an edge that is not tiny with the foot that is computed,
 -- a tiny one with any fraction, or with its start where the computed squared length is 0. Assumes nothing.
 use mathlib.Core.Path.{◌≡◌}
 use mathlib.Core.Bool.{Bool, false, cond}

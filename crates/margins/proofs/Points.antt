@@ -1,4 +1,4 @@
--- R-10 for one edge, of `closest-on-segment` and `length-of` themselves: where the computed gap from p to the edge from a to b is not
+-- R-10 for one edge, of `closest_on_segment` and `length_of` themselves: where the computed gap from p to the edge from a to b is not
 -- below the distance less the tolerance, as computed, p is `Far` from the edge. Assumes nothing.
 use mathlib.Core.Path.{◌≡◌, refl, subst}
 use mathlib.Core.Logic.{◌⊎◌, inl, inr}

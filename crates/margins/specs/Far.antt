@@ -3,7 +3,7 @@
 --   unit     2 ^ -1074, the smallest double above 0. A finite double x is a whole number of units, `over x` above 0 or `under x` below it:
 --            `UnitsExact` says so of its value, `UnitsOfBits` of its 64 bits. The number 1 is 2 ^ 1074 units.
 --   D, M     the distance and the largest absolute coordinate of the source, in units. The extent is M, too: margin/specs/Margin.antt.
---   n        `margin-of D M`, the distance that is promised, in units and times 10 ^ 15, so that no fraction is left of
+--   n        `margin_of D M`, the distance that is promised, in units and times 10 ^ 15, so that no fraction is left of
 --                distance - 2 × 1e-9 × (1 + distance + extent) - 1e-15 × the largest coordinate.
 --            It is 0 where that is below 0, and then nothing is promised.
 --   i / j    a fraction from 0 to 1. It names the point a + (i / j) (b - a) of the edge from a to b.
@@ -11,7 +11,7 @@
 --            has the larger square. So `Far` compares (n / 10 ^ 15)² with the square of the distance, both times
 --            10 ^ 30 j², which makes both whole numbers.
 --
--- Of one edge `Far` is proved in `proofs/Points.antt` (`far-edge`), what is stated here in `proofs/Units.antt` and `proofs/Nearest.antt`;
+-- Of one edge `Far` is proved in `proofs/Points.antt` (`far_edge`), what is stated here in `proofs/Units.antt` and `proofs/Nearest.antt`;
 -- `Examples.antt` has numbers that can be worked out by hand. Assumes nothing.
 use Rattle.std.specs.Prelude.{ℕ, zero, suc, ◌+◌, ◌-◌, ◌*◌, ◌/◌, ◌%◌, ◌^◌, ◌≤◌, ◌<◌, ◌≡◌, ◌⊎◌, Bool, true, false, cond, T, leb, Float}
 use Rattle.std.specs.Float.{nan, inf, fin, binary64}

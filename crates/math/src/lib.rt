@@ -1,4 +1,6 @@
 // Float operations that the language has no form for: absolute value, least and greatest, tests, and the correctly rounded `hypot`.
+#![tactic(auto)]
+
 ghost use Rattle.std.specs.Prelude.{◌≡◌, cond};
 ghost use Rattle.std.specs.Float.{nan};
 ghost use Rattle.hypotenuse.specs.Hypot;

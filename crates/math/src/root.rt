@@ -17,21 +17,21 @@ const WORD: u64 = 0x40_0000_0000_0000;
 const INFINITE: u64 = 0x7ff0_0000_0000_0000;
 
 // A whole root and what it leaves: root * root + rest is the number under the root.
-#[derive(Drop)]
+#[derive(Clone, Copy)]
 struct Root {
     root: u64,
     rest: u64,
 }
 
 // The number hi * 2^54 + lo.
-#[derive(Drop)]
+#[derive(Clone, Copy)]
 struct Wide {
     hi: u64,
     lo: u64,
 }
 
 // The number hi * 2^54 + lo, and what a shift dropped below it.
-#[derive(Drop)]
+#[derive(Clone, Copy)]
 struct Cut {
     hi: u64,
     lo: u64,
@@ -234,7 +234,8 @@ fn rounded(x: u64, root: u64, rest: u64) -> u64
     requires x_bound { x ≤ 2045 }
     requires root_bound { root < 2 ^ 55 }
     requires bound { 0 < x → 2 ^ 53 ≤ root }
-    ensures { (result ≤ 0x7ff0_0000_0000_0000) × ((s : ℕ) → Twice s (2 * x) root rest → of_bits binary64 result ≡ round_root binary64 s) }
+    ensures { (result ≤ 0x7ff0_0000_0000_0000)
+        × ((s : ℕ) → Twice s (2 * x) root rest → of_bits binary64 result ≡ round_root binary64 s) }
 {
     let short = root < WORD;
     let digits = bits::pick(short, root * 2, root);
@@ -246,7 +247,8 @@ fn rounded(x: u64, root: u64, rest: u64) -> u64
 fn of_finite(a: u64, b: u64) -> u64
     requires b_le_a { b ≤ a }
     requires a_bound { a < 0x7ff0_0000_0000_0000 }
-    ensures { (result ≤ 0x7ff0_0000_0000_0000) × (of_bits binary64 result ≡ round_root binary64 (units_of a * units_of a + units_of b * units_of b)) }
+    ensures { (result ≤ 0x7ff0_0000_0000_0000)
+        × (of_bits binary64 result ≡ round_root binary64 (units_of a * units_of a + units_of b * units_of b)) }
 {
     let x = bits::exponent(a);
     let d = x - bits::exponent(b);

@@ -99,7 +99,7 @@ abbrev pub OffsetEmpty : Type 0
 OffsetEmpty = (o : Outline) (outward : Bool) (d : Float) → granted (offset o outward d).refusal ≡ false →
     EmptyOutline (offset o outward d).shape
 
--- ---- before the front is loaded the counts are 0: `offset-plain` has no events
+-- ---- before the front is loaded the counts are 0: `offset_plain` has no events
 
 pub record BeforeLoading (o : Outline) (outward : Bool) (d : Float) : Type 0 where
   -- 21

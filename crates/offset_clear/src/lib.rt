@@ -1,5 +1,7 @@
 // The last checks of an offset and of a region's inset, against one ring of the source: each vertex on the right side of it, and as far
 // from it as was asked.
+#![tactic(auto)]
+
 ghost use Rattle.std.specs.Prelude.{◌≡◌, ◌&&◌, not};
 ghost use Rattle.std.specs.Float.Ieee.{le};
 ghost use Rattle.plane.specs.Points;
@@ -133,7 +135,7 @@ pub fn stays_clear<'a>(
     least: f64,
 ) -> bool
     ensures { result ≡ (Offsets.keeps_clear outward least ps.now n qs.now m && not
-        (Meet.rings-meet qs.now m ps.now n)) }
+        (Meet.rings_meet qs.now m ps.now n)) }
 {
     if keeps_clear(false, outward, least, ps, n, qs, m) {
         return !ring_cross::rings_meet(qs, m, ps, n);

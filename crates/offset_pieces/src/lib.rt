@@ -1,4 +1,6 @@
 // The pieces of an outline's offset: what the finished rings of its front come to.
+#![tactic(auto)]
+
 ghost use Rattle.std.specs.Prelude.{◌≡◌};
 ghost use Rattle.offset.specs.Offsets;
 ghost use Rattle.offset.specs.Rings;

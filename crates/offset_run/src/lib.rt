@@ -1,4 +1,6 @@
 // The inset and the outset of an outline.
+#![tactic(auto)]
+
 ghost use Rattle.std.specs.Prelude.{◌≡◌, true, ◌≤◌};
 ghost use Rattle.outline.specs.Outlines;
 ghost use Rattle.offset.specs.Answers;
@@ -42,8 +44,8 @@ pub(crate) fn found_refusal<'a>(
     m: usize,
 ) -> Refusal
     ensures { result ≡
-        Found.found-refusal (Found.outline-of ps.now n) outward d tolerance u found
-        (Found.outline-of qs.now m) }
+        Found.found_refusal (Found.outline_of ps.now n) outward d tolerance u found
+        (Found.outline_of qs.now m) }
 {
     if !u.granted() {
         return u;
@@ -164,8 +166,8 @@ pub(crate) fn write_offset<'a>(
 ) -> OffsetWritten
     requires { n ≤ 128 }
     ensures answered { result ≡
-        Lent.offset-told (Found.answer-of given ps.now n collapses divides joins)
-        (Lent.write-offset (Found.answer-of given ps.now n collapses divides joins) out.old) }
+        Lent.offset_told (Found.answer_of given ps.now n collapses divides joins)
+        (Lent.write_offset (Found.answer_of given ps.now n collapses divides joins) out.old) }
     ensures written { out.new ≡ Lent.offset_over (Found.answer_of given ps.now n collapses divides joins) out.old }
 {
     let needed = 2 * n;

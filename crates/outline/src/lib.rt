@@ -1,5 +1,7 @@
 // Outlines: from numbers to an outline, and question 21 of one handed in. A ring is a list of numbers, two a vertex, east then north. An
 // outline has room for 128 vertices.
+#![tactic(auto)]
+
 ghost use Rattle.std.specs.Prelude.{◌≡◌};
 ghost use Rattle.outline.specs.Outlines;
 
@@ -10,14 +12,14 @@ use error::Refusal;
 
 // An outline: its first `count` vertices, counter-clockwise; the rest is 0.
 #[repr(C)]
-#[derive(Drop)]
+#[derive(Clone, Copy)]
 pub struct Outline {
     pub points: [f64; 256],
     pub count: usize,
 }
 
 // What a check of an outline or a region answers: the shape stands beside the refusal, and is empty unless granted.
-#[derive(Drop)]
+#[derive(Clone, Copy)]
 pub struct NewOutline {
     pub refusal: Refusal,
     pub shape: Outline,

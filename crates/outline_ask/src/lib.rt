@@ -1,5 +1,7 @@
 // What is asked of an outline that is handed in, its numbers and how many vertices they are: question 21 first, then 2 of the point; and
 // its vertices and edges.
+#![tactic(auto)]
+
 ghost use Rattle.std.specs.Prelude.{◌≡◌, cond};
 ghost use Rattle.plane.specs.Points;
 ghost use Rattle.outline_ask.specs.Queries;
@@ -9,28 +11,28 @@ use outline::entry;
 use plane::{Containment, PlanarPoint};
 
 // Where a point lies; Outside beside a refusal.
-#[derive(Drop)]
+#[derive(Clone, Copy)]
 pub struct Placed {
     pub refusal: Refusal,
     pub place: Containment,
 }
 
 // A length; 0 beside a refusal.
-#[derive(Drop)]
+#[derive(Clone, Copy)]
 pub struct Measured {
     pub refusal: Refusal,
     pub value: f64,
 }
 
 // A point; (0, 0) beside a refusal.
-#[derive(Drop)]
+#[derive(Clone, Copy)]
 pub struct Footed {
     pub refusal: Refusal,
     pub point: PlanarPoint,
 }
 
 // The nearest point of the boundary and its distance; 0 and (0, 0) beside a refusal.
-#[derive(Drop)]
+#[derive(Clone, Copy)]
 pub struct Neared {
     pub refusal: Refusal,
     pub distance: f64,
@@ -38,7 +40,7 @@ pub struct Neared {
 }
 
 // An edge; (0, 0) twice beside a refusal.
-#[derive(Drop)]
+#[derive(Clone, Copy)]
 pub struct Edged {
     pub refusal: Refusal,
     pub start: PlanarPoint,
@@ -47,7 +49,7 @@ pub struct Edged {
 
 // Whether two outlines meet, and by which edges: the outer walk's, then the inner walk's; `swapped` where the second outline is in the
 // outer walk. Where they do not meet, and beside a refusal, nothing is told.
-#[derive(Drop)]
+#[derive(Clone, Copy)]
 pub struct Met {
     pub refusal: Refusal,
     pub meets: bool,

@@ -9,7 +9,7 @@ use outline::entry;
 use ring_check::Checked;
 
 // What the check of an outline answers, and how many vertices it has; 0 beside a refusal.
-#[derive(Drop)]
+#[derive(Clone, Copy)]
 pub struct Counted {
     pub refusal: Refusal,
     pub count: usize,

@@ -1,4 +1,6 @@
 // Lent output: an outline, its numbers and how many vertices they are, written to numbers of the caller.
+#![tactic(auto)]
+
 ghost use Rattle.std.specs.Prelude.{◌≡◌, cond, ◌*◌, leb};
 ghost use Rattle.error.specs.declared.Refusal.TheVariants.{Granted, Short};
 ghost use Rattle.outline.specs.Outlines;

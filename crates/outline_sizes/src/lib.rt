@@ -1,4 +1,6 @@
 // Measures of an outline that is handed in, its clearance, and whether two outlines meet: question 21 first.
+#![tactic(auto)]
+
 ghost use Rattle.std.specs.Prelude.{◌≡◌};
 ghost use Rattle.error.specs.declared.Refusal.TheVariants.{Granted};
 ghost use Rattle.outline.specs.Outlines;

@@ -1,4 +1,6 @@
 // Points of the plane, vectors and segments. Each float step stands in the Rust's order, rounded once.
+#![tactic(auto)]
+
 ghost use Rattle.std.specs.Prelude.{◌≡◌, cond};
 ghost use Rattle.plane.specs.Plane;
 ghost use Rattle.plane.specs.Points;
@@ -7,21 +9,21 @@ use error::Refusal;
 
 // A point of the plane, or a vector.
 #[repr(C)]
-#[derive(Drop)]
+#[derive(Clone, Copy)]
 pub struct PlanarPoint {
     pub east: f64,
     pub north: f64,
 }
 
 // A point, or the refusal of its numbers.
-#[derive(Drop)]
+#[derive(Clone, Copy)]
 pub struct NewPoint {
     pub refusal: Refusal,
     pub point: PlanarPoint,
 }
 
 // Where a point lies relative to an outline or a region.
-#[derive(Drop)]
+#[derive(Clone, Copy)]
 pub enum Containment {
     Inside,
     OnBoundary,

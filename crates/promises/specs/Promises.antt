@@ -6,7 +6,7 @@
 -- definition of the crate from which it comes, and what is left to believe. Assumes nothing.
 --
 -- The promises are about definitions. That the code does what its definition says is the contract of each function, beside it in `src/`:
--- `r ≡ definition arguments`, and of lent memory `now out.exit ≡ definition (now out.entry)`. The definitions most used here:
+-- `result ≡ definition arguments`, and of lent memory `out.new ≡ definition out.old`. The definitions most used here:
 --
 --   hypot x y                            `hypot`, `lw_hypot`                           hypotenuse/specs/Hypot.antt
 --   outline ps                           numbers to an outline                         outline/specs/Outlines.antt
@@ -110,7 +110,7 @@ use Rattle.lizardwire_c.specs.Exports.{told_nearest, told_area, told_meeting, to
 use Rattle.margin.specs.Margin.{Doubles, RegionDoubles}
 use Rattle.margin.specs.Lent.{ring_in}
 use Rattle.margin.specs.Drawn.{given_ring, GivenMargin}
-use Rattle.examples.specs.Table.{table, row_at, answer, offset_answer, outline_of, inset-of, rings, no, w, S}
+use Rattle.examples.specs.Table.{table, row_at, answer, offset_answer, outline_of, inset_of, rings, no, w, S}
 use Rattle.examples.specs.Again as Again
 
 -- x is a double, as all numbers of the code are; `Doubles ps` says it of the numbers of a list, and `RegionDoubles r` of those of a region
@@ -128,14 +128,14 @@ Refused u = granted u ≡ false
 abbrev pub Above : Float → Type 0
 Above d = lt zero_float d ≡ true
 
--- Ring 0 of a region is the outer one, ring l + 1 is hole l: `ring-points r l` has its numbers, and `ring-count r l` counts its vertices.
+-- Ring 0 of a region is the outer one, ring l + 1 is hole l: `ring_points r l` has its numbers, and `ring_count r l` counts its vertices.
 
 -- ---- 0. Numbers, exactly
 --
 -- What is exact is said in whole numbers: `hypot`, and parts 4 and 5. The unit is the smallest double above 0, 2 ^ -1074, and every finite
 -- double is a whole number of units: `over x` of them where it is above 0, `under x` where it is below 0, `magnitude x` without the sign.
 -- The 64 bits say how many. The first is the sign, the next eleven are the exponent's field, and the other 52 are the digits. A field of 0
--- stands for the digits alone, a field f + 1 for (2 ^ 52 + digits) * 2 ^ f units (`field-units`), and 2047 for no finite number.
+-- stands for the digits alone, a field f + 1 for (2 ^ 52 + digits) * 2 ^ f units (`field_units`), and 2047 for no finite number.
 
 pub record Units : Type 0 where
   pub above : (b : ℕ) → (field_of b ≡ 2047 → ⊥) →
@@ -435,11 +435,11 @@ pub record Answers : Type 0 where
       (l : ℕ) → l < length lengths → NoHairline (ring_in lengths ps l) (get_or lengths l 0)
   pub job_long : (outward : Bool) (d : Float) (lengths : List ℕ) (ps : List Float) → Accepted (job outward d lengths ps).refusal →
       (l : ℕ) → l < length lengths → NoHairline (ring_in lengths ps l) (get_or lengths l 0)
-  -- An outline that comes in from outside is checked by `check-door`, and a piece that an offset leaves by `check-ring`.
+  -- An outline that comes in from outside is checked by `check_door`, and a piece that an offset leaves by `check_ring`.
   pub drawing_asked : (ps : List Float) → length ps % 2 ≡ 0 → Accepted (check_finite ps) →
       (outline ps).refusal ≡ (check_door 128 0 ps (length ps / 2)).refusal
   pub piece_asked : (room place : ℕ) (ps : List Float) (n : ℕ) → check_piece room place ps n ≡ check_ring room place ps n
-  -- They differ by 27 alone: it refuses what is granted 4 to 7 (`past-seven`) and has such an edge (`hairline`), and any other ring is
+  -- They differ by 27 alone: it refuses what is granted 4 to 7 (`past_seven`) and has such an edge (`hairline`), and any other ring is
   -- answered as a piece.
   pub door : (room ring : ℕ) (ps : List Float) (n : ℕ) → let c = check_ring room ring ps n in
       check_door room ring ps n ≡ cond (past_seven c.refusal && hairline ps (kept ps n)) (refused (Hairline ring)) c
@@ -450,7 +450,7 @@ pub record Answers : Type 0 where
   pub nearest_to_it : (1000000 * (2 * 4722366482869645 - 1) < 2 * 2 ^ 72) × (2 * 2 ^ 72 < 1000000 * (2 * 4722366482869645 + 1))
   -- ---- offsets
 
-  -- An outline that does not pass 21 is refused by it. Then 13 and 14 are asked of the distance: `check-distance`.
+  -- An outline that does not pass 21 is refused by it. Then 13 and 14 are asked of the distance: `check_distance`.
   pub improper : (o : Outline) (outward : Bool) (d : Float) → proper 128 o.points o.count ≡ false →
       (offset o outward d).refusal ≡ Shape
   pub distance_asked : (o : Outline) (outward : Bool) (d : Float) → proper 128 o.points o.count ≡ true →
@@ -493,7 +493,7 @@ pub record Answers : Type 0 where
   pub both_parts : (r : Region) (p : PlanarPoint) → NearestParts r p
   -- ---- jobs
 
-  -- A job of one ring is the offset of its outline, handed back as a region without holes (`as-region`), and one of more rings is the
+  -- A job of one ring is the offset of its outline, handed back as a region without holes (`as_region`), and one of more rings is the
   -- inset of its region.
   pub job_one : (outward : Bool) (d : Float) (ps : List Float) → Accepted (outline ps).refusal →
       job outward d (length ps / 2 ∷ []) ps ≡ as_region (offset (outline ps).shape outward d)
@@ -589,7 +589,7 @@ abbrev pub promised : ℕ → ℕ → ℕ
 promised D M = 10 ^ 15 * D - (2 * 10 ^ 6 * (2 ^ 1074 + D + M) + M)
 
 -- The point p is that far from every point a + (i / j) (b − a) of the edge from a to b. The squares of both sides are compared, since a
--- distance is a root, and both are multiplied by 10 ^ 30 j², which leaves whole numbers: `squared-apart p a b i j` is j² times the square
+-- distance is a root, and both are multiplied by 10 ^ 30 j², which leaves whole numbers: `squared_apart p a b i j` is j² times the square
 -- of the distance, in squares of the unit (margins/specs/Far.antt).
 abbrev pub Away : ℕ → ℕ → PlanarPoint → PlanarPoint → PlanarPoint → Type 0
 Away D M p a b = (i j : ℕ) → i ≤ j → 0 < j → promised D M * promised D M * (j * j) ≤ 10 ^ 30 * squared_apart p a b i j
@@ -620,8 +620,8 @@ pub record Margin (d : Float) (ps : List Float) (n : ℕ) (qs : List Float) (m :
   pub largest : Extent ps n most
   pub far : RingAway (over d) most qs m ps n
 
--- Rings were drawn one after the other in ps: ring l has `get_or lengths l 0` vertices, and `ring_in` leaves out those before it. Handed back
--- are `rings` rings, ring k with `count k` vertices in `ring k`.
+-- Rings were drawn one after the other in ps: ring l has `get_or lengths l 0` vertices, and `ring_in` leaves out those before it. Handed
+-- back are `rings` rings, ring k with `count k` vertices in `ring k`.
 pub record RingsMargin (d : Float) (lengths : List ℕ) (ps : List Float) (rings : ℕ) (ring : ℕ → List Float) (count : ℕ → ℕ)
     : Type 0 where
   pub most : ℕ
@@ -738,8 +738,8 @@ pub record Plain (ps : List Float) (n : ℕ) : Type 0 where
 pub record ExactMeeting : Type 0 where
   -- ---- what is told is so, and what is so is told
 
-  -- three points: left where the cross product is above 0, right where it is below, straight where it is 0; it is `cross-plus` less
-  -- `cross-minus`
+  -- three points: left where the cross product is above 0, right where it is below, straight where it is 0; it is `cross_plus` less
+  -- `cross_minus`
   pub sign : (a b c : PlanarPoint) → Finite a → Finite b → Finite c → turn a b c ≡ by_sums (cross_plus a b c) (cross_minus a b c)
   -- two edges
   pub meeting_share : (p1 p2 q1 q2 : PlanarPoint) → Finite p1 → Finite p2 → Finite q1 → Finite q2 →
@@ -939,15 +939,15 @@ pub record Drawn : Type 0 where
   pub examples : (k : ℕ) → k < length table → answer (row_at table k).question ≡ (row_at table k).drawn
   -- E8 and E9: the square S from (0, 0) to (4, 4), inset 1, is the square from (1, 1) to (3, 3), without an event; inset 2 it is refused
   -- by 16
-  pub inset_one : answer (inset-of S (w 1)) ≡
+  pub inset_one : answer (inset_of S (w 1)) ≡
       rings ((w 1 ∷ w 1 ∷ w 3 ∷ w 1 ∷ w 3 ∷ w 3 ∷ w 1 ∷ w 3 ∷ []) ∷ []) (0 ∷ 0 ∷ 0 ∷ [])
-  pub inset_two : answer (inset-of S (w 2)) ≡ no 16 [] [] (w 2 ∷ []) (0 ∷ 0 ∷ 0 ∷ [])
+  pub inset_two : answer (inset_of S (w 2)) ≡ no 16 [] [] (w 2 ∷ []) (0 ∷ 0 ∷ 0 ∷ [])
   -- E5: (0, 0), (4, 4), (4, 0), (0, 2) is refused by 9, of ring 0, edges 0 and 2
   pub crossed : answer (outline_of (w 0 ∷ w 0 ∷ w 4 ∷ w 4 ∷ w 4 ∷ w 0 ∷ w 0 ∷ w 2 ∷ [])) ≡
       no 9 (0 ∷ []) (0 ∷ 2 ∷ []) [] []
   -- R-7 (examples/specs/Again.antt): an inset with an edge of 2.3e-7, the cage of a square of side 4 with a corner cut off, is accepted. As
   -- a drawing it is refused by 27 of ring 0, as it is it can be inset again.
-  pub hairline_inset : answer (inset-of Again.drawn Again.margin) ≡ rings (Again.cage ∷ []) (0 ∷ 0 ∷ 0 ∷ [])
+  pub hairline_inset : answer (inset_of Again.drawn Again.margin) ≡ rings (Again.cage ∷ []) (0 ∷ 0 ∷ 0 ∷ [])
   pub hairline_drawn : answer (outline_of Again.cage) ≡ no 27 (0 ∷ []) [] [] []
   pub hairline_again : offset_answer (inset (inset (outline Again.drawn).shape Again.margin).shape Again.tenth) ≡
       rings (Again.inner ∷ []) (1 ∷ 0 ∷ 0 ∷ [])

@@ -1,1 +1,2 @@
 // What is proved, restated in one file: specs/Promises.antt. No code.
+#![tactic(auto)]

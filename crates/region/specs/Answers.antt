@@ -76,7 +76,7 @@ LoadEmpty =
 abbrev pub InsetEmpty : Type 0
 InsetEmpty = (r : Region) (d : Float) → granted (region_inset r d).refusal ≡ false → EmptyRegion (region_inset r d).shape
 
--- ---- before the front is loaded the counts are 0: `region-plain` has no events
+-- ---- before the front is loaded the counts are 0: `region_plain` has no events
 
 pub record InsetBeforeLoading (r : Region) (d : Float) : Type 0 where
   -- 21

@@ -97,7 +97,8 @@ outer_loaded ps n c =
 
 unfoldable pub load_rings : List ℕ → List Float → RegionLoad
 load_rings lengths ps =
-    rounds (hole_load_step lengths ps) (length lengths - 1) (outer_loaded ps (get_or lengths 0 0) (check_door 128 0 ps (get_or lengths 0 0)))
+    rounds (hole_load_step lengths ps) (length lengths - 1)
+    (outer_loaded ps (get_or lengths 0 0) (check_door 128 0 ps (get_or lengths 0 0)))
 
 unfoldable pub region_loaded : RegionLoad → NewRegion
 region_loaded s = cond (granted s.refusal) (region_if s.shape (check_region s.shape)) (region_refused s.refusal)

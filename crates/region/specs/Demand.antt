@@ -1,5 +1,5 @@
 -- Demand 3 for a region that passes question 21, by a finite distance: of all its edges, in one ring more than there are holes. The front
--- is that of `region-sweep`. Proved in `proofs/Demand.antt`. Assumes nothing.
+-- is that of `region_sweep`. Proved in `proofs/Demand.antt`. Assumes nothing.
 use Rattle.std.specs.Prelude.{ℕ, zero, suc, ◌+◌, ◌≡◌, true, Float}
 use Rattle.front.specs.declared.Loaded.{Loaded}
 use Rattle.region.specs.declared.Region.{Region}
@@ -20,7 +20,7 @@ edges_of r (suc k) = edges_of r k + hole_count r k
 abbrev pub region_load : Region → Float → Loaded
 region_load r distance = load_region r (vertex_at r.outer.points 0) distance
 
--- `offset-rings`, of which `Demand` speaks, is the sweep of the region's inset
+-- `offset_rings`, of which `Demand` speaks, is the sweep of the region's inset
 abbrev pub RegionSweep : Type 0
 RegionSweep = (r : Region) (distance : Float) → offset_rings distance (region_load r distance) ≡ region_sweep r distance
 

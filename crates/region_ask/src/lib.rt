@@ -1,5 +1,7 @@
 // holes.rs, what is asked of a region handed in: question 21 first, then 2 of the point, then the value; and the readers `outer` and
 // `holes`, as outlines.
+#![tactic(auto)]
+
 ghost use Rattle.std.specs.Prelude.{◌≡◌, cond, false, ◌*◌, ltb, get_or, drop, length};
 ghost use Rattle.outline.specs.Outlines;
 ghost use Rattle.region.specs.Queries;
@@ -167,7 +169,7 @@ pub(crate) fn outline_as(ps: &[f64], n: usize) -> Outline
 pub fn outer<'a>(ps: &'a [f64], n: usize, hs: &'a [f64], cs: &'a [usize], h: usize) -> NewOutline
     ensures is { result ≡ Reads.outer_of (Regions.region_of ps.now n hs.now cs.now h) }
     ensures whole { length ps.now ≡ 256 → result ≡ Queries.region_outer
-        (Regions.region-of ps.now n hs.now cs.now h) }
+        (Regions.region_of ps.now n hs.now cs.now h) }
 {
     if region_given::proper_region(ps, n, hs, cs, h) {
         NewOutline {
@@ -182,7 +184,7 @@ pub fn outer<'a>(ps: &'a [f64], n: usize, hs: &'a [f64], cs: &'a [usize], h: usi
 // Hole k as an outline; from h on the empty one.
 pub(crate) fn hole_outline<'a>(hs: &'a [f64], cs: &'a [usize], h: usize, k: usize) -> Outline
     ensures { result ≡ cond (ltb k h) (Outlines.stored_outline (drop (64 * k) hs.now) (get_or cs.now k 0) false)
-        Outlines.no-outline }
+        Outlines.no_outline }
 {
     if k < h {
         let n = region_given::count_at(cs, k);

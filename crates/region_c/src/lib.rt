@@ -1,5 +1,7 @@
 // Regions for C: those of ring lengths and numbers, and those handed in as they are written. What is asked of them, and what is written of
 // them to lent output.
+#![tactic(auto)]
+
 ghost use Rattle.std.specs.Prelude.{◌≡◌, length};
 ghost use Rattle.outline_lent.specs.Direct;
 ghost use Rattle.region.specs.Checks;

@@ -1,4 +1,4 @@
--- Questions 11 and 12 over the numbers of a region's holes: the walks of `check-holes` and `check-apart`, which look at nothing else of the
+-- Questions 11 and 12 over the numbers of a region's holes: the walks of `check_holes` and `check_apart`, which look at nothing else of the
 -- region. Assumes nothing.
 use Rattle.std.specs.Prelude.{ℕ, ◌+◌, ◌-◌, ◌*◌, Bool, cond, List, get_or, drop, Float}
 use Rattle.error.specs.declared.Refusal.{Refusal}

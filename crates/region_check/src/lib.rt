@@ -1,4 +1,6 @@
 // Questions 10 to 12 of a region whose rings have passed 4 to 9.
+#![tactic(auto)]
+
 ghost use Rattle.std.specs.Prelude.{◌≡◌};
 ghost use Rattle.ring_contain.specs.Contains;
 ghost use Rattle.offset.specs.Clear;

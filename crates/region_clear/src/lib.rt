@@ -1,5 +1,7 @@
 // The last checks of a region's inset: its rings against the rings of the source. A region is handed in as the numbers and the count of its
 // outer ring, the flat numbers of its holes, their counts, and how many holes there are.
+#![tactic(auto)]
+
 ghost use Rattle.std.specs.Prelude.{◌≡◌, ◌&&◌, not};
 ghost use Rattle.region.specs.Regions.{region_of};
 ghost use Rattle.region.specs.Insets;
@@ -48,11 +50,11 @@ pub fn stays_clear<'a>(
     g: usize,
 ) -> bool
     ensures { result ≡
-        (Insets.region-keeps-clear least (region-of ps.now n hs.now cs.now h)
-        (region-of qs.now m gs.now ds.now g) &&
+        (Insets.region_keeps_clear least (region_of ps.now n hs.now cs.now h)
+        (region_of qs.now m gs.now ds.now g) &&
         not
-        (Insets.crosses (region-of ps.now n hs.now cs.now h)
-        (region-of qs.now m gs.now ds.now g))) }
+        (Insets.crosses (region_of ps.now n hs.now cs.now h)
+        (region_of qs.now m gs.now ds.now g))) }
 {
     if !ring_apart(least, ps, n, hs, cs, h, qs, m) {
         return false;

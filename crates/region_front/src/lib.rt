@@ -1,4 +1,6 @@
 // The front of a region handed in: its rings loaded, the outer one forwards and the holes backwards, and swept to the distance.
+#![tactic(auto)]
+
 ghost use Rattle.std.specs.Prelude.{◌≡◌};
 ghost use Rattle.front_sweep.specs.Acts;
 ghost use Rattle.region_front.specs.Rings;

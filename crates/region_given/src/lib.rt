@@ -1,5 +1,7 @@
 // A region handed in: the numbers and the count of its outer ring, the flat numbers of its holes, their counts, and how many holes there
 // are.
+#![tactic(auto)]
+
 ghost use Rattle.std.specs.Prelude.{◌≡◌, ◌*◌, ◌≤◌, get_or, drop, length};
 ghost use Rattle.ring.specs.Store;
 ghost use Rattle.region.specs.Regions;

@@ -1,4 +1,6 @@
 // The inset of a region: the sweep of all its rings, the pieces of the front, and what these come to.
+#![tactic(auto)]
+
 ghost use Rattle.std.specs.Prelude.{◌≡◌, true, suc};
 ghost use Rattle.offset.specs.Answers.{AnswerDemand};
 ghost use Rattle.region.specs.Regions.{region_of};
@@ -31,8 +33,8 @@ pub(crate) fn found_refusal<'a>(
     g: usize,
 ) -> Refusal
     ensures { result ≡
-        Found.found-refusal (region-of ps.now n hs.now cs.now h) d tolerance u found
-        (region-of qs.now m gs.now ds.now g) }
+        Found.found_refusal (region_of ps.now n hs.now cs.now h) d tolerance u found
+        (region_of qs.now m gs.now ds.now g) }
 {
     if !u.granted() {
         return u;
@@ -124,8 +126,8 @@ pub(crate) fn region_plain(u: Refusal, r: Region) -> RegionOffset
 // bounds hold of what is handed back.
 pub fn inset(r: Region, d: f64) -> RegionOffset
     ensures is { result ≡ Insets.region_inset r d }
-    ensures bounded { proper_region r ≡ true → AnswerDemand (edges_of r r.holes) (suc r.holes) result.refusal result.collapses result.divides
-        result.joins }
+    ensures bounded { proper_region r ≡ true
+        → AnswerDemand (edges_of r r.holes) (suc r.holes) result.refusal result.collapses result.divides result.joins }
 {
     let o = r.outer;
     let u = region_given::ask_region(

@@ -1,4 +1,6 @@
 // Lent output of a region's inset.
+#![tactic(auto)]
+
 ghost use Rattle.std.specs.Prelude.{◌≡◌};
 ghost use Rattle.region.specs.Answers;
 ghost use Rattle.region.specs.Queries;

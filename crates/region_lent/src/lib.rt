@@ -1,4 +1,6 @@
 // Lent output of a region: its rings, the outer one first, written to numbers of the caller, two a vertex.
+#![tactic(auto)]
+
 ghost use Rattle.std.specs.Prelude.{◌≡◌, ◌+◌, ◌≤◌};
 ghost use Rattle.base.specs.Loop.{rounds};
 ghost use Rattle.outline_lent.specs.Writes;

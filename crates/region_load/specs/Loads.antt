@@ -1,4 +1,4 @@
--- The rings of a region from numbers: question 3, then 4 to 9 and 27 ring by ring. `load-rings` without question 3 is that of the region's
+-- The rings of a region from numbers: question 3, then 4 to 9 and 27 ring by ring. `load_rings` without question 3 is that of the region's
 -- own check. Assumes nothing.
 use Rattle.std.specs.Prelude.{ℕ, ◌-◌, cond, List, get_or, length, Float}
 use Rattle.error.specs.declared.Refusal.{Refusal}

@@ -1,4 +1,6 @@
 // The rings of a region from numbers: question 3, and 4 to 9 and 27 ring by ring.
+#![tactic(auto)]
+
 ghost use Rattle.std.specs.Prelude.{◌≡◌, true, cond, ◌*◌, ◌≤◌, ltb, length, set};
 ghost use Rattle.ring.specs.Store;
 ghost use Rattle.region.specs.Checks;

@@ -1,4 +1,6 @@
 // holes.rs, the measures of a region handed in: extent, area and perimeter, the outer ring first and then its holes.
+#![tactic(auto)]
+
 ghost use Rattle.std.specs.Prelude.{◌≡◌, ◌*◌, get_or, drop};
 ghost use Rattle.math.specs.Number.{add, fmax};
 ghost use Rattle.ring_measure.specs.Measures;

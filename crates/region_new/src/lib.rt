@@ -1,4 +1,6 @@
 // Regions: from ring lengths and numbers, from an outline alone, or from outlines that are handed in.
+#![tactic(auto)]
+
 ghost use Rattle.std.specs.Prelude.{◌≡◌};
 ghost use Rattle.region.specs.Checks;
 ghost use Rattle.region.specs.Answers;

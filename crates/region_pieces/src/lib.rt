@@ -1,4 +1,6 @@
 // The pieces of a region's inset: what the finished rings of its front come to.
+#![tactic(auto)]
+
 ghost use Rattle.std.specs.Prelude.{◌≡◌};
 ghost use Rattle.region.specs.Insets;
 ghost use Rattle.region_pieces.specs.Rooms;

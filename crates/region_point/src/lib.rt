@@ -1,4 +1,6 @@
 // holes.rs, a point and a region handed in: where it lies, and the nearest point of the boundary.
+#![tactic(auto)]
+
 ghost use Rattle.std.specs.Prelude.{◌≡◌, ◌*◌, get_or, drop};
 ghost use Rattle.ring_contain.specs.Contains;
 ghost use Rattle.ring_near.specs.Near;
@@ -28,7 +30,7 @@ pub(crate) fn contains_step<'a>(
     s: Containment,
 ) -> Containment
     ensures { result ≡ Regions.while_inside s
-        (Regions.in-hole (Contains.ring-contains (drop (64 * k) hs.now) (get_or cs.now k 0) p)) }
+        (Regions.in_hole (Contains.ring_contains (drop (64 * k) hs.now) (get_or cs.now k 0) p)) }
 {
     match s {
         Containment::Inside => {
@@ -109,7 +111,7 @@ pub(crate) fn region_nearest<'a>(
     p: PlanarPoint,
 ) -> Nearest
     ensures { result ≡ Gaps.gap_from p
-        (Regions.closest-boundary-point (Regions.region-of ps.now n hs.now cs.now h) p) }
+        (Regions.closest_boundary_point (Regions.region_of ps.now n hs.now cs.now h) p) }
 {
     let mut s = ring_gap(ps, n, p);
     let mut k = 0;

@@ -12,8 +12,8 @@ use Rattle.region.specs.Regions.{no_region, ring_points, ring_count, with_outer,
 use Rattle.region.specs.Checks.{total_step, total, lengths_fit, check_region, region_refused, region_if}
 use Rattle.region.specs.Queries.{ask_region}
 
--- the numbers from ring k on; it has `get_or lengths k` vertices. It is `ring_in` of `margin`, a crate of theorems, which code does not use:
--- `SameRing` (margin_c/specs/Told.antt).
+-- the numbers from ring k on; it has `get_or lengths k` vertices. It is `ring_in` of `margin`, a crate of theorems, which code does not
+-- use: `SameRing` (margin_c/specs/Told.antt).
 unfoldable pub ring_from : List ℕ → List Float → ℕ → List Float
 ring_from lengths ps k = drop (2 * rounds (total_step lengths) k 0) ps
 

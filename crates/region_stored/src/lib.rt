@@ -1,4 +1,6 @@
 // A region handed in as it is written, ring after ring: question 21 of its counts and of each ring, and the rings taken as they are.
+#![tactic(auto)]
+
 ghost use Rattle.std.specs.Prelude.{◌≡◌, true, false, ◌≤◌, length};
 ghost use Rattle.error.specs.declared.Refusal.TheVariants.{Shape};
 ghost use Rattle.ring.specs.Store;

@@ -6,7 +6,7 @@ use crate::{holed, kinds, offsets, parts, shapes, turns};
 pub(crate) const ROOM: usize = 1100;
 
 // A field: whether it is well formed, and then its value.
-#[derive(Drop)]
+#[derive(Clone, Copy)]
 struct Word {
     sound: bool,
     value: u64,
@@ -114,13 +114,15 @@ pub(crate) fn take_lines<'a>(
     let mut t = Tally::new();
     let mut at = 0usize;
     while at < text.len() {
-        let stop = bytes::scan::find(text, at, text.len(), 10);
-        if text.len() <= stop {
-            return t.with(UNREAD, false);
+        let rest = &text[at..];
+        match memchr::memchr(10, rest) {
+            None => return t.with(UNREAD, false),
+            Some(n) => {
+                let counted = take_line(t, &rest[..n], fields, numbers);
+                t = counted;
+                at += n + 1;
+            }
         }
-        let counted = take_line(t, &text[at..stop], fields, numbers);
-        t = counted;
-        at = stop + 1;
     }
     t
 }

@@ -2,6 +2,8 @@
 //
 // A line of standard input has fields of 16 lower-case hexadecimal digits, parted by commas: the kind of question,
 // how many fields of answer follow, the answer, the question.
+#![tactic(auto)]
+
 mod holed;
 mod kinds;
 mod line;
@@ -11,16 +13,16 @@ mod shapes;
 mod tally;
 mod turns;
 
-// Room for the whole input.
-fn room() -> [u8; 4194304] {
-    [0; 4194304]
+// Compares the lines of standard input, which `text` has room for, and prints the counts.
+fn compare(text: &mut [u8; 4194304]) {
+    let mut fields = [0u64; line::ROOM];
+    let mut numbers = [0.0; line::ROOM];
+    let n = io::read_full(0, text);
+    let counts = line::take_lines(&text[..n], &mut fields, &mut numbers);
+    counts.print();
 }
 
 fn main() {
-    let mut text = room();
-    let mut fields = [0u64; line::ROOM];
-    let mut numbers = [0.0; line::ROOM];
-    let n = io::read_full(0, &mut text);
-    let counts = line::take_lines(&text[..n], &mut fields, &mut numbers);
-    counts.print();
+    let mut text = [0u8; 4194304];
+    compare(&mut text);
 }

@@ -4,7 +4,7 @@ use crate::parts;
 // The place of lines that cannot be read, after the seventeen kinds. The place after it has all lines.
 pub(crate) const UNREAD: usize = 17;
 
-#[derive(Drop)]
+#[derive(Clone, Copy)]
 pub(crate) struct Tally {
     pub compared: [u64; 19],
     pub differ: [u64; 19],

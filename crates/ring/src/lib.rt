@@ -1,4 +1,6 @@
 // The vertices of a ring. A ring is a list of numbers, two a vertex; a vertex out of the list is NaN.
+#![tactic(auto)]
+
 ghost use Rattle.std.specs.Prelude.{◌≡◌, get_or};
 ghost use Rattle.std.specs.Float.{nan};
 ghost use Rattle.ring.specs.Ring;

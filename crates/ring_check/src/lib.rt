@@ -1,5 +1,7 @@
 // The check of a ring: questions 4 to 9, and at the door, where a ring comes in from outside, 27 between 7 and 8. `room` is how many
 // vertices there is room for, `index` the ring's number.
+#![tactic(auto)]
+
 ghost use Rattle.std.specs.Prelude.{◌≡◌, cond};
 ghost use Rattle.std.specs.Float.Ieee.{lt};
 ghost use Rattle.plane.specs.Plane;
@@ -12,7 +14,7 @@ use plane::PlanarPoint;
 use ring_cross::Crossing;
 
 // What the ring check answers: how many vertices are kept, and whether they are stored in reverse.
-#[derive(Drop)]
+#[derive(Clone, Copy)]
 pub struct Checked {
     pub refusal: Refusal,
     pub count: usize,

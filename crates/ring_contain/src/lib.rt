@@ -1,4 +1,6 @@
 // Where a point lies: by the crossings of a ray to the east, the boundary asked first.
+#![tactic(auto)]
+
 ghost use Rattle.std.specs.Prelude.{◌≡◌, cond};
 ghost use Rattle.ring_contain.specs.Contains;
 

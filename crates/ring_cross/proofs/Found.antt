@@ -1,4 +1,4 @@
--- What `check-simple` tells: `Simple` where no pair crosses or touches, and a pair only where it does. Assumes nothing.
+-- What `check_simple` tells: `Simple` where no pair crosses or touches, and a pair only where it does. Assumes nothing.
 use Prim.Native.Nat.{ℕ, ◌+◌, ◌-◌, ◌<◌}
 use mathlib.Core.Path.{◌≡◌, refl, sym, ap, ◌∙◌, subst}
 use mathlib.Core.Bool.{Bool, true, false, cond, true≢false}

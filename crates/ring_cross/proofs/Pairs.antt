@@ -1,4 +1,4 @@
--- The two walks of `check-simple`: what they give where no pair is found so far, and where one is. Assumes nothing.
+-- The two walks of `check_simple`: what they give where no pair is found so far, and where one is. Assumes nothing.
 use Prim.Native.Nat.{ℕ, zero, suc, ◌+◌, ◌-◌, ◌<◌, ◌≤◌}
 use native.Mathlib.Nat.{add-zero, le_antisymm}
 use mathlib.Core.Path.{◌≡◌, refl, sym, ap, ◌∙◌, subst}

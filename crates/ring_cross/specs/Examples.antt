@@ -1,5 +1,5 @@
 -- R-9 in numbers: rings of which rounded turns told something else. The first three go round clockwise, so they are stored backwards;
--- `check-simple` names edges in the stored order. Proved in `proofs/Examples.antt`. Assumes nothing.
+-- `check_simple` names edges in the stored order. Proved in `proofs/Examples.antt`. Assumes nothing.
 use Rattle.std.specs.Prelude.{◌≡◌, true, false, List, [], ◌∷◌, ℕ, Float}
 use Rattle.std.specs.Float.{binary64}
 use Rattle.std.specs.Float.Ieee.{of_bits}

@@ -25,7 +25,7 @@ pub record Strangers (n i j : ℕ) : Type 0 where
   -- the first edge begins where the last one ends
   pub unless_round : i ≡ 0 → j + 1 ≡ n → ⊥
 
--- edges i and j of n, i the lower, have an end in common, and they overlap there as `folds-back` has it: j comes next after i, or they are
+-- edges i and j of n, i the lower, have an end in common, and they overlap there as `folds_back` has it: j comes next after i, or they are
 -- the first and the last
 pub data Folded (ps : List Float) (n : ℕ) (back : Bool) (i j : ℕ) : Type 0 where
   next : j ≡ i + 1

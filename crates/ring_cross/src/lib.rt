@@ -1,5 +1,7 @@
 // Whether a ring is simple, by two nested walks over its edges, left at the first pair that crosses or touches; and whether two rings
 // have a point in common.
+#![tactic(auto)]
+
 ghost use Rattle.std.specs.Prelude.{◌≡◌};
 ghost use Rattle.ring_cross.specs.Simple;
 ghost use Rattle.ring_cross.specs.Meet;
@@ -7,7 +9,7 @@ ghost use Rattle.ring_cross.specs.Meet;
 pub mod pair;
 
 // The first two edges of a ring that cross or touch, if any.
-#[derive(Drop)]
+#[derive(Clone, Copy)]
 pub enum Crossing {
     Simple,
     Edges(usize, usize),

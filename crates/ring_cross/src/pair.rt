@@ -10,21 +10,21 @@ ghost use Rattle.ring_cross.specs.Pair;
 use plane::PlanarPoint;
 
 // Nowhere, or the two edges by which rings meet: the outer walk's, then the inner walk's.
-#[derive(Drop)]
+#[derive(Clone, Copy)]
 pub enum Meeting {
     Apart,
     Edges(usize, usize),
 }
 
 // The box of a ring, by its corners.
-#[derive(Drop)]
+#[derive(Clone, Copy)]
 pub(crate) struct Frame {
     pub low: PlanarPoint,
     pub high: PlanarPoint,
 }
 
 // How many edges are listed, all below `stop`; from there on each edge is asked.
-#[derive(Drop)]
+#[derive(Clone, Copy)]
 pub(crate) struct Listed {
     pub count: usize,
     pub stop: usize,

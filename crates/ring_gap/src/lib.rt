@@ -1,4 +1,6 @@
 // How far two rings are from each other: the least gap over the vertices of each against the edges of the other.
+#![tactic(auto)]
+
 ghost use Rattle.std.specs.Prelude.{◌≤◌, ◌<◌, ◌≡◌};
 ghost use Rattle.ring_gap.specs.Gap;
 ghost use Rattle.ring_gap.specs.Blocks;
@@ -6,7 +8,7 @@ ghost use Rattle.ring_gap.specs.Blocks;
 use plane::PlanarPoint;
 
 // The corners of the box of a block of edges.
-#[derive(Drop)]
+#[derive(Clone, Copy)]
 pub struct Block {
     pub low: PlanarPoint,
     pub high: PlanarPoint,

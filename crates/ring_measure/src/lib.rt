@@ -1,11 +1,13 @@
 // The measures of a ring: area, span, perimeter and extent. A ring is a list of numbers, two a vertex.
+#![tactic(auto)]
+
 ghost use Rattle.std.specs.Prelude.{◌≡◌};
 ghost use Rattle.ring_measure.specs.Measures;
 
 use plane::PlanarPoint;
 
 // The corners of a bounding box.
-#[derive(Drop)]
+#[derive(Clone, Copy)]
 pub struct Bounds {
     pub low: PlanarPoint,
     pub high: PlanarPoint,

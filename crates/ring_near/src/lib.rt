@@ -1,18 +1,20 @@
 // The nearest point of a boundary.
+#![tactic(auto)]
+
 ghost use Rattle.std.specs.Prelude.{◌≡◌};
 ghost use Rattle.ring_near.specs.Near;
 
 use plane::PlanarPoint;
 
 // Distance to the nearest point of a boundary, and that point.
-#[derive(Drop)]
+#[derive(Clone, Copy)]
 pub struct Nearest {
     pub gap: f64,
     pub foot: PlanarPoint,
 }
 
 // The nearest foot so far, the vector to it from the point, and the vector's squared length as computed.
-#[derive(Drop)]
+#[derive(Clone, Copy)]
 pub struct Lead {
     pub offset: PlanarPoint,
     pub square: f64,

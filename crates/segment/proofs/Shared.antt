@@ -319,27 +319,27 @@ level' l1 r1 l2 r2 l3 r3 l4 r4 f a b (left_right h k) = omega arith
 level' l1 r1 l2 r2 l3 r3 l4 r4 f a b (right_left h k) = omega arith
 
 module _ (p1 p2 q1 q2 : Place) where
-  abbrev About_q : Type 0
-  About_q = Balance (left_places q1 q2 p1) (right_places q1 q2 p1) (left_places q1 q2 p2) (right_places q1 q2 p2)
+  abbrev AboutQ : Type 0
+  AboutQ = Balance (left_places q1 q2 p1) (right_places q1 q2 p1) (left_places q1 q2 p2) (right_places q1 q2 p2)
 
-  abbrev About_p : Type 0
-  About_p = Balance (left_places p1 p2 q1) (right_places p1 p2 q1) (left_places p1 p2 q2) (right_places p1 p2 q2)
+  abbrev AboutP : Type 0
+  AboutP = Balance (left_places p1 p2 q1) (right_places p1 p2 q1) (left_places p1 p2 q2) (right_places p1 p2 q2)
 
   inside : Inner p1 p2 q1 q2 → Meets p1 p2 q1 q2
   unfolding flip
   inside s = go about_q about_p
     where
-      about_q : About_q
+      about_q : AboutQ
       about_q =
           balance s.share.i' s.share.i (left_places q1 q2 p1) (right_places q1 q2 p1) (left_places q1 q2 p2) (right_places q1 q2 p2) s.first s.second
           (balanced p1 p2 q1 q2 s.share)
 
-      about_p : About_p
+      about_p : AboutP
       about_p =
           balance s.share.k' s.share.k (left_places p1 p2 q1) (right_places p1 p2 q1) (left_places p1 p2 q2) (right_places p1 p2 q2) s.third s.fourth
           (balanced q1 q2 p1 p2 (flip p1 p2 q1 q2 s.share))
 
-      go : About_q → About_p → Meets p1 p2 q1 q2
+      go : AboutQ → AboutP → Meets p1 p2 q1 q2
       go (Balance.some a) (Balance.some b) = across a b
       go (Balance.none a b) (Balance.none c d) = overlap p1 p2 q1 q2 s (record { first = c; second = d; third = a; fourth = b })
       go (Balance.none a b) (Balance.some c) = absurd (lt_irrefl 0 (level _ _ _ _ _ _ _ _ (four_turns p1 p2 q1 q2) a b c))

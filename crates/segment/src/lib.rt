@@ -1,4 +1,6 @@
 // Segments of the plane: whether two of them meet or fold back, a test of their boxes that they do not meet, and the nearest point of one.
+#![tactic(auto)]
+
 ghost use Rattle.std.specs.Prelude.{◌≡◌};
 ghost use Rattle.turn.specs.Turns;
 ghost use Rattle.turn.specs.Turns.{DoublePoint};

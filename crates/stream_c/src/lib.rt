@@ -1,4 +1,6 @@
 // The stream of job lines for C: its state in lent bytes, a call for each block of the input, and one for its end.
+#![tactic(auto)]
+
 ghost use Rattle.std.specs.Prelude.{◌≡◌, ◌≤◌, length};
 ghost use Rattle.error.specs.Carries;
 ghost use Rattle.stream_c.specs.State;
@@ -11,7 +13,7 @@ use told::LwLine;
 // What a call on the stream answers: the refusal's number, 0 where granted, and with 20 the bytes needed; how many bytes of the block are
 // done with, and how many of the output are answers.
 #[repr(C)]
-#[derive(Drop)]
+#[derive(Clone, Copy)]
 pub struct LwFed {
     pub refusal: usize,
     pub first: usize,

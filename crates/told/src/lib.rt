@@ -1,4 +1,6 @@
 // What the functions for C answer: a refusal's number and what it carries as plain numbers, beside the value.
+#![tactic(auto)]
+
 ghost use Rattle.std.specs.Prelude.{◌≡◌};
 ghost use Rattle.error.specs.Carries;
 ghost use Rattle.told.specs.Told;
@@ -8,7 +10,7 @@ use plane::{Containment, PlanarPoint};
 
 // What the check of an outline answers: the refusal's number, 0 where granted, what it carries, and the vertices written.
 #[repr(C)]
-#[derive(Drop)]
+#[derive(Clone, Copy)]
 pub struct LwOutline {
     pub refusal: usize,
     pub ring: usize,
@@ -20,7 +22,7 @@ pub struct LwOutline {
 
 // Where a point lies: 0 outside, 1 on the boundary, 2 inside. `first` is the index that 2 carries.
 #[repr(C)]
-#[derive(Drop)]
+#[derive(Clone, Copy)]
 pub struct LwPlace {
     pub refusal: usize,
     pub first: usize,
@@ -29,7 +31,7 @@ pub struct LwPlace {
 
 // The nearest point of a boundary, and its distance.
 #[repr(C)]
-#[derive(Drop)]
+#[derive(Clone, Copy)]
 pub struct LwNearest {
     pub refusal: usize,
     pub first: usize,
@@ -40,7 +42,7 @@ pub struct LwNearest {
 
 // The enclosed area.
 #[repr(C)]
-#[derive(Drop)]
+#[derive(Clone, Copy)]
 pub struct LwArea {
     pub refusal: usize,
     pub area: f64,
@@ -48,7 +50,7 @@ pub struct LwArea {
 
 // A length: a perimeter, an extent, a clearance.
 #[repr(C)]
-#[derive(Drop)]
+#[derive(Clone, Copy)]
 pub struct LwLength {
     pub refusal: usize,
     pub length: f64,
@@ -57,7 +59,7 @@ pub struct LwLength {
 // Whether two outlines meet, 1 or 0, and by which edges: the outer walk's, then the inner walk's. `swapped` is 1 where the second outline
 // is in the outer walk.
 #[repr(C)]
-#[derive(Drop)]
+#[derive(Clone, Copy)]
 pub struct LwMeeting {
     pub refusal: usize,
     pub meets: usize,
@@ -68,7 +70,7 @@ pub struct LwMeeting {
 
 // A point.
 #[repr(C)]
-#[derive(Drop)]
+#[derive(Clone, Copy)]
 pub struct LwPoint {
     pub refusal: usize,
     pub east: f64,
@@ -77,7 +79,7 @@ pub struct LwPoint {
 
 // An edge, by its two ends.
 #[repr(C)]
-#[derive(Drop)]
+#[derive(Clone, Copy)]
 pub struct LwEdge {
     pub refusal: usize,
     pub start_east: f64,
@@ -88,7 +90,7 @@ pub struct LwEdge {
 
 // What an offset answers: the refusal's number and what it carries, the vertices written, and the completed events.
 #[repr(C)]
-#[derive(Drop)]
+#[derive(Clone, Copy)]
 pub struct LwOffset {
     pub refusal: usize,
     pub ring: usize,
@@ -104,7 +106,7 @@ pub struct LwOffset {
 // What the check of a region answers: the refusal's number, 0 where granted, what it carries, the rings and the vertices of each. They are
 // written, but where a region handed in is only judged.
 #[repr(C)]
-#[derive(Drop)]
+#[derive(Clone, Copy)]
 pub struct LwRegion {
     pub refusal: usize,
     pub ring: usize,
@@ -117,7 +119,7 @@ pub struct LwRegion {
 
 // What the inset of a region answers: the same, and the completed events.
 #[repr(C)]
-#[derive(Drop)]
+#[derive(Clone, Copy)]
 pub struct LwRegionOffset {
     pub refusal: usize,
     pub ring: usize,
@@ -134,7 +136,7 @@ pub struct LwRegionOffset {
 // What a job line answers: 0 and the bytes written, or 20 and the bytes needed. What the making of a stream's state answers: the bytes that
 // it has to have, either way.
 #[repr(C)]
-#[derive(Drop)]
+#[derive(Clone, Copy)]
 pub struct LwLine {
     pub refusal: usize,
     pub count: usize,

@@ -38,7 +38,7 @@ gain x y z t = onward x y * onward z t + backward x y * backward z t
 abbrev pub loss : Float → Float → Float → Float → ℕ
 loss x y z t = onward x y * backward z t + backward x y * onward z t
 
--- the cross product (b - a) × (c - a) is `cross-plus a b c` less `cross-minus a b c`. It is
+-- the cross product (b - a) × (c - a) is `cross_plus a b c` less `cross_minus a b c`. It is
 -- (b.east - a.east) (c.north - a.north) - (b.north - a.north) (c.east - a.east), in squares of the unit.
 abbrev pub cross_plus : PlanarPoint → PlanarPoint → PlanarPoint → ℕ
 cross_plus a b c = gain a.east b.east a.north c.north + loss a.north b.north a.east c.east

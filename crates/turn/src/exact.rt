@@ -19,7 +19,7 @@ const SIGN: u64 = 0x8000_0000_0000_0000;
 const LIMIT: u64 = 0x1_0000_0000;
 
 // (low + mid * 2^27 + high * 2^54) * 2^(27 * slot) units, negative where `back`.
-#[derive(Drop)]
+#[derive(Clone, Copy)]
 pub struct Limbs {
     back: bool,
     slot: u64,
@@ -29,7 +29,7 @@ pub struct Limbs {
 }
 
 // Five digits from the slot on; they count to the right where `back`.
-#[derive(Drop)]
+#[derive(Clone, Copy)]
 pub struct Product {
     back: bool,
     slot: u64,
@@ -40,7 +40,7 @@ pub struct Product {
     de: u64,
 }
 
-#[derive(Drop)]
+#[derive(Clone, Copy)]
 pub struct Six {
     pa: Product,
     pb: Product,

@@ -1,4 +1,6 @@
 // The exact turn of three points: the sign of a sum of six products, worked out in whole numbers from the bits.
+#![tactic(auto)]
+
 ghost use Rattle.std.specs.Prelude.{◌≡◌, T};
 ghost use Rattle.std.specs.Float.{binary64};
 ghost use Rattle.std.specs.Float.Ieee.{fits};
@@ -11,7 +13,7 @@ use plane::PlanarPoint;
 mod exact;
 
 // On which side of the line from a to b the point c lies. Unknown: one of the numbers is not finite.
-#[derive(Drop)]
+#[derive(Clone, Copy)]
 pub enum Turn {
     Left,
     Right,

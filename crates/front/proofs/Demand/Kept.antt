@@ -302,7 +302,7 @@ one_ring_same f events bound a b k l d =
     let w : From (links f) a k.held.rs = from (links f) a k.held.rs k.held.rings l in
     sought f a b d w.others w.rest w.rings (short 128 (links f) a w.others w.rest w.rings k.held.slots)
 
--- what `one-ring` tells: going from next to next from a comes to b, or never does
+-- what `one_ring` tells: going from next to next from a comes to b, or never does
 pub one_ring_meets : (f : List Edge) (a b : ℕ) → b ≢ a → one_ring f a b ≡ true → (j : ℕ) × (along (links f).next j a ≡ b)
 unfolding one_ring
 one_ring_meets f a b d q = (seek f a b d).met q

@@ -78,7 +78,7 @@ ring_at f first c p r = record {
 
 module _ (P : Line → Type 0) where
   -- the rings loaded so far: n edges in r rings
-  pub record Rings-in (n r : ℕ) (s : Loaded) : Type 0 where
+  pub record RingsIn (n r : ℕ) (s : Loaded) : Type 0 where
     pub rs : List Ring
     pub rings : RingsOf (links s.edges) rs
     pub live : (x : ℕ) → x < n → (links s.edges).live x ≡ 1
@@ -90,8 +90,8 @@ module _ (P : Line → Type 0) where
     pub threes : Threes rs
     pub lined : Lined (λ i. P) s.edges
 
-  abbrev pub Load_is : ℕ → ℕ → Loaded → Type 0
-  Load_is n r s = granted s.refusal ≡ true → Rings-in n r s
+  abbrev pub LoadIs : ℕ → ℕ → Loaded → Type 0
+  LoadIs n r s = granted s.refusal ≡ true → RingsIn n r s
 
   module _ (ps : List Float) (c : ℕ) (back : Bool) (origin : PlanarPoint) (d : Float) (s₀ : Loaded)
       (sound : (k : ℕ) → k < c → (l : Line) → through (load_vertex ps c back origin k) (load_vertex ps c back origin (following c k)) ≡ Along l → P l) where
@@ -109,17 +109,17 @@ module _ (P : Line → Type 0) where
       new : (x : ℕ) → first ≤ x → x < first + i → Slot s.edges first c x
       rest : (x : ℕ) → first + i ≤ x → (links s.edges).live x ≡ 0
 
-    abbrev Part_is : ℕ → Loaded → Type 0
-    Part_is i s = i ≤ c → granted s.refusal ≡ true → Part i s
+    abbrev PartIs : ℕ → Loaded → Type 0
+    PartIs i s = i ≤ c → granted s.refusal ≡ true → Part i s
 
-    refused_part : (i : ℕ) (s : Loaded) (r : Refusal) → granted r ≡ false → Part_is i (load_refused s r)
+    refused_part : (i : ℕ) (s : Loaded) (r : Refusal) → granted r ≡ false → PartIs i (load_refused s r)
     unfolding load_refused
     refused_part i s r q h g = absurd (false≢true (sym q ∙ g))
 
-    line_part : (k : ℕ) (s : Loaded) (a : PlanarPoint) (x : Through) → (k < c → (l : Line) → x ≡ Along l → P l) → Part_is k s → granted s.refusal ≡ true → Part_is (suc k) (load_line d first c k a s x)
+    line_part : (k : ℕ) (s : Loaded) (a : PlanarPoint) (x : Through) → (k < c → (l : Line) → x ≡ Along l → P l) → PartIs k s → granted s.refusal ≡ true → PartIs (suc k) (load_line d first c k a s x)
     unfolding load_line granted number values loaded_edge
     line_part k s a NoLine good p g = refused_part (suc k) s (Collapses d) refl
-    line_part k s a (Along l) good p g = by_test (Part_is (suc k)) (has_room s) stored (λ q. refused_part (suc k) s _ refl)
+    line_part k s a (Along l) good p g = by_test (PartIs (suc k)) (has_room s) stored (λ q. refused_part (suc k) s _ refl)
       where
         e : Edge
         e = loaded_edge l first c k a
@@ -127,7 +127,7 @@ module _ (P : Line → Type 0) where
         f : List Edge
         f = set s.edges s.used e
 
-        stored : has_room s ≡ true → Part_is (suc k) (record { edges = f; used = s.used + 1; rings = s.rings; refusal = Granted })
+        stored : has_room s ≡ true → PartIs (suc k) (record { edges = f; used = s.used + 1; rings = s.rings; refusal = Granted })
         stored q h z =
             let w : Part k s = p (omega arith) g in
             let here : edge f (first + k) ≡ e = subst (λ (i : ℕ). edge f i ≡ e) w.used (edge_here s.edges s.used e w.lined.size (room_below s q)) in
@@ -145,19 +145,19 @@ module _ (P : Line → Type 0) where
               rest = λ x i. ap (λ (y : Edge). bit y.alive) (there x (λ n. omega arith)) ∙ w.rest x (omega arith);
             }
 
-    step_part : (k : ℕ) (s : Loaded) → Part_is k s → Part_is (suc k) (load_step ps c back origin d first k s)
+    step_part : (k : ℕ) (s : Loaded) → PartIs k s → PartIs (suc k) (load_step ps c back origin d first k s)
     unfolding load_step load_edge
     step_part k s p =
-        by_test (Part_is (suc k)) (granted s.refusal) (λ q. line_part k s (load_vertex ps c back origin k) _ (sound k) p q) (λ q h g. absurd (false≢true (sym q ∙ g)))
+        by_test (PartIs (suc k)) (granted s.refusal) (λ q. line_part k s (load_vertex ps c back origin k) _ (sound k) p q) (λ q h g. absurd (false≢true (sym q ∙ g)))
 
     -- a ring of three or more is loaded after the others
-    pub load_law : (n r : ℕ) → 3 ≤ c → Load_is n r s₀ → Load_is (n + c) (suc r) (load_ring ps c back origin d s₀)
+    pub load_law : (n r : ℕ) → 3 ≤ c → LoadIs n r s₀ → LoadIs (n + c) (suc r) (load_ring ps c back origin d s₀)
     unfolding load_ring ring_begun
-    load_law n r three h = go (rounds (load_step ps c back origin d first) c (ring_begun s₀)) (rounds_keep (load_step ps c back origin d first) Part_is (ring_begun s₀) start step_part c)
+    load_law n r three h = go (rounds (load_step ps c back origin d first) c (ring_begun s₀)) (rounds_keep (load_step ps c back origin d first) PartIs (ring_begun s₀) start step_part c)
       where
-        start : Part_is 0 (ring_begun s₀)
+        start : PartIs 0 (ring_begun s₀)
         start z g =
-            let w : Rings-in n r s₀ = h g in
+            let w : RingsIn n r s₀ = h g in
             record {
               before = g;
               used = omega arith;
@@ -169,10 +169,10 @@ module _ (P : Line → Type 0) where
               rest = λ x i. w.rest x (omega (arith, w.used));
             }
 
-        go : (s : Loaded) → Part_is c s → Load_is (n + c) (suc r) s
+        go : (s : Loaded) → PartIs c s → LoadIs (n + c) (suc r) s
         go s p g = grown (p (omega arith) g) (h (p (omega arith) g).before)
           where
-            grown : Part c s → Rings-in n r s₀ → Rings-in (n + c) (suc r) s
+            grown : Part c s → RingsIn n r s₀ → RingsIn (n + c) (suc r) s
             grown w v =
                 let at : first ≡ n = v.used in
                 record {
@@ -205,7 +205,7 @@ module _ (P : Line → Type 0) where
       go (yes h) = edge_in (replicate 128 unused) i h ∙ get_or-replicate 128 i unused blank h
       go (no h) = edge_out (replicate 128 unused) i (omega arith)
 
-  pub load_none : Load_is 0 0 loaded_nothing
+  pub load_none : LoadIs 0 0 loaded_nothing
   unfolding loaded_nothing no_front
   load_none g = record {
     rs = [];
@@ -225,26 +225,26 @@ module _ (P : Line → Type 0) where
 
 -- ---- what loading may refuse with: a zero length, or the room
 
-abbrev pub Load_refusal : Refusal → Type 0
-Load_refusal r = granted r ≡ false → (number r ≡ 15) ⊎ (number r ≡ 16)
+abbrev pub LoadRefusal : Refusal → Type 0
+LoadRefusal r = granted r ≡ false → (number r ≡ 15) ⊎ (number r ≡ 16)
 
-line_refusal : (d : Float) (first c k : ℕ) (a : PlanarPoint) (s : Loaded) (x : Through) → Load_refusal (load_line d first c k a s x).refusal
+line_refusal : (d : Float) (first c k : ℕ) (a : PlanarPoint) (s : Loaded) (x : Through) → LoadRefusal (load_line d first c k a s x).refusal
 unfolding load_line load_refused granted number values
 line_refusal d first c k a s NoLine = λ q. inr refl
-line_refusal d first c k a s (Along l) = by_test (λ (x : Loaded). Load_refusal x.refusal) (has_room s) (λ b q. absurd (true≢false q)) (λ b q. inl refl)
+line_refusal d first c k a s (Along l) = by_test (λ (x : Loaded). LoadRefusal x.refusal) (has_room s) (λ b q. absurd (true≢false q)) (λ b q. inl refl)
 
-step_refusal : (ps : List Float) (c : ℕ) (back : Bool) (origin : PlanarPoint) (d : Float) (first k : ℕ) (s : Loaded) → Load_refusal s.refusal
-    → Load_refusal (load_step ps c back origin d first k s).refusal
+step_refusal : (ps : List Float) (c : ℕ) (back : Bool) (origin : PlanarPoint) (d : Float) (first k : ℕ) (s : Loaded) → LoadRefusal s.refusal
+    → LoadRefusal (load_step ps c back origin d first k s).refusal
 unfolding load_step load_edge
 step_refusal ps c back origin d first k s h =
-    by_test (λ (x : Loaded). Load_refusal x.refusal) (granted s.refusal) (λ q. line_refusal d first c k (load_vertex ps c back origin k) s _) (λ q. h)
+    by_test (λ (x : Loaded). LoadRefusal x.refusal) (granted s.refusal) (λ q. line_refusal d first c k (load_vertex ps c back origin k) s _) (λ q. h)
 
-pub ring_refusal : (ps : List Float) (c : ℕ) (back : Bool) (origin : PlanarPoint) (d : Float) (s : Loaded) → Load_refusal s.refusal
-    → Load_refusal (load_ring ps c back origin d s).refusal
+pub ring_refusal : (ps : List Float) (c : ℕ) (back : Bool) (origin : PlanarPoint) (d : Float) (s : Loaded) → LoadRefusal s.refusal
+    → LoadRefusal (load_ring ps c back origin d s).refusal
 unfolding load_ring ring_begun
 ring_refusal ps c back origin d s h =
-    rounds_keep (load_step ps c back origin d s.used) (λ i r. Load_refusal r.refusal) (ring_begun s) h (step_refusal ps c back origin d s.used) c
+    rounds_keep (load_step ps c back origin d s.used) (λ i r. LoadRefusal r.refusal) (ring_begun s) h (step_refusal ps c back origin d s.used) c
 
-pub none_refusal : Load_refusal loaded_nothing.refusal
+pub none_refusal : LoadRefusal loaded_nothing.refusal
 unfolding loaded_nothing granted number values
 none_refusal q = absurd (true≢false q)

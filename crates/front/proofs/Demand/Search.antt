@@ -46,11 +46,11 @@ module _ (f : List Edge) where
   Struck NoSplit = Unit {0}
   Struck (SplitAfter v e s) = Hits f v e × Forward s
 
-  abbrev pub Event_is : Event → Type 0
-  Event_is Stalled = ⊥
-  Event_is Never = Unit {0}
-  Event_is (Collapse x s) = ((links f).live x ≡ 1) × Forward s
-  Event_is (Split v e s) = Hits f v e × Forward s
+  abbrev pub EventIs : Event → Type 0
+  EventIs Stalled = ⊥
+  EventIs Never = Unit {0}
+  EventIs (Collapse x s) = ((links f).live x ≡ 1) × Forward s
+  EventIs (Split v e s) = Hits f v e × Forward s
 
 -- no edge shrinks infinitely fast
 abbrev pub Rates : List Edge → Float → Type 0
@@ -168,15 +168,15 @@ module _ (f : List Edge) (t : Float) (rates : Rates f t) (moves : Moves f) (on :
 
   -- ---- the event
 
-  choose_fine : (c : SoonestCollapse) (h : SoonestSplit) → Gone f c → Struck f h → Event_is f (choose t c h)
+  choose_fine : (c : SoonestCollapse) (h : SoonestSplit) → Gone f c → Struck f h → EventIs f (choose t c h)
   unfolding choose
   choose_fine NoCollapse NoSplit g k = tt
   choose_fine NoCollapse (SplitAfter v e s) g k = k
   choose_fine (CollapseAfter x c) NoSplit g k = g
-  choose_fine (CollapseAfter x c) (SplitAfter v e s) g k = by_test (Event_is f) (lt s (Number.sub c (mul tie (add one t)))) (λ q. k) (λ q. g)
+  choose_fine (CollapseAfter x c) (SplitAfter v e s) g k = by_test (EventIs f) (lt s (Number.sub c (mul tie (add one t)))) (λ q. k) (λ q. g)
 
-  pub event_fine : Event_is f (next_event f t)
+  pub event_fine : EventIs f (next_event f t)
   unfolding next_event event_of
   event_fine =
-      subst (λ (b : Bool). Event_is f (cond b Stalled (choose t (look f t).collapse (look f t).split))) (sym look_fine.moving)
+      subst (λ (b : Bool). EventIs f (cond b Stalled (choose t (look f t).collapse (look f t).split))) (sym look_fine.moving)
       (choose_fine (look f t).collapse (look f t).split look_fine.gone look_fine.struck)

@@ -31,15 +31,15 @@ use Rattle.front.proofs.Demand.Unit.{hypot_east, hypot_north, div_long}
 
 -- ---- a line through two points
 
-abbrev Through_is : Through → Type 0
-Through_is NoLine = Unit {0}
-Through_is (Along l) = Bounded l
+abbrev ThroughIs : Through → Type 0
+ThroughIs NoLine = Unit {0}
+ThroughIs (Along l) = Bounded l
 
 along_bounded : (p : PlanarPoint) (x y : Float) → Small 1 x → Small 1 y → Bounded (line_along p x y)
 unfolding line_along
 along_bounded p x y h k = record { u0 = h; u1 = k; n0 = neg_small 1 y k; n1 = h; left = (refl, refl) }
 
-by_bounded : (p : PlanarPoint) (k : ℕ) (x y : Float) → Small k x → Small k y → Through_is (line_by p (record { east = x; north = y }) (hypot x y))
+by_bounded : (p : PlanarPoint) (k : ℕ) (x y : Float) → Small k x → Small k y → ThroughIs (line_by p (record { east = x; north = y }) (hypot x y))
 unfolding line_by
 by_bounded p k nan y h i = absurd h
 by_bounded p k (inf s) y h i = absurd h
@@ -50,18 +50,18 @@ by_bounded p k (fin s m e) (fin t n d) h i = go (le l zero_float) refl
     l : Float
     l = hypot (fin s m e) (fin t n d)
 
-    go : (b : Bool) → le l zero_float ≡ b → Through_is (cond b NoLine (Along (line_along p (div (fin s m e) l) (div (fin t n d) l))))
+    go : (b : Bool) → le l zero_float ≡ b → ThroughIs (cond b NoLine (Along (line_along p (div (fin s m e) l) (div (fin t n d) l))))
     go true q = tt
     go false q = along_bounded p (div (fin s m e) l) (div (fin t n d) l) (div_long s m e l (hypot_east s m e t n d) q) (div_long t n d l (hypot_north s m e t n d) q)
 
-through_is : (k : ℕ) (a b : PlanarPoint) → suc k ≤ 1023 → SmallPoint k a → SmallPoint k b → Through_is (through a b)
+through_is : (k : ℕ) (a b : PlanarPoint) → suc k ≤ 1023 → SmallPoint k a → SmallPoint k b → ThroughIs (through a b)
 unfolding through line_of sub
 through_is k a b h u v =
     by_bounded a (suc k) (sub b a).east (sub b a).north
     (sub_small k b.east a.east h v.east u.east) (sub_small k b.north a.north h v.north u.north)
 
 pub through_bounded : (k : ℕ) (a b : PlanarPoint) → suc k ≤ 1023 → SmallPoint k a → SmallPoint k b → (l : Line) → through a b ≡ Along l → Bounded l
-through_bounded k a b h u v l q = subst Through_is q (through_is k a b h u v)
+through_bounded k a b h u v l q = subst ThroughIs q (through_is k a b h u v)
 
 -- ---- coordinates
 

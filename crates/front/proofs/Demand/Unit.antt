@@ -78,29 +78,29 @@ side_below x s k q h i = go (dec_le (suc q * 2 ^ k) x)
     go (no l) = omega arith
 
 -- the rounded root is infinite, or a number of units that is at least half of a side and a bit
-abbrev pub Long_enough : ℕ → Float → Type 0
-Long_enough x nan = ⊥
-Long_enough x (inf s) = Unit {0}
-Long_enough x (fin s n d) = (v : ℕ) × (n * up d * 2 ^ 1074 ≡ v * down d) × (0 < v → suc x ≤ v + v)
+abbrev pub LongEnough : ℕ → Float → Type 0
+LongEnough x nan = ⊥
+LongEnough x (inf s) = Unit {0}
+LongEnough x (fin s n d) = (v : ℕ) × (n * up d * 2 ^ 1074 ≡ v * down d) × (0 < v → suc x ≤ v + v)
 
 enough : (n q p x : ℕ) → q ≤ n → 0 < n * p → x < suc q * p → suc x ≤ n * p + n * p
 enough zero q p x h i l = absurd (omega arith)
 enough (suc n) q p x h i l = omega (arith, mul-le-mul_right p h)
 
-of_value : (x v : ℕ) (z : Float) → HasValue z false v (2 ^ 1074) → (0 < v → suc x ≤ v + v) → Long_enough x z
+of_value : (x v : ℕ) (z : Float) → HasValue z false v (2 ^ 1074) → (0 < v → suc x ≤ v + v) → LongEnough x z
 of_value x v nan p h = absurd p
 of_value x v (inf s) p h = absurd p
 of_value x v (fin s m e) p h = (v, p.1, h)
 
-units_long : (n k x : ℕ) → (0 < n * 2 ^ k → suc x ≤ n * 2 ^ k + n * 2 ^ k) → Long_enough x (units binary64 false n k)
+units_long : (n k x : ℕ) → (0 < n * 2 ^ k → suc x ≤ n * 2 ^ k + n * 2 ^ k) → LongEnough x (units binary64 false n k)
 unfolding units
 units_long n k x h = go (ltb (n * 2 ^ k) (2 ^ (lib.Ieee.low binary64 + suc (lib.Ieee.emax binary64))))
   where
-    go : (b : Bool) → Long_enough x (cond b (lib.Ieee.odd (suc (lib.Ieee.prec binary64)) false n k (lib.Ieee.low binary64)) (inf false))
+    go : (b : Bool) → LongEnough x (cond b (lib.Ieee.odd (suc (lib.Ieee.prec binary64)) false n k (lib.Ieee.low binary64)) (inf false))
     go true = of_value x (n * 2 ^ k) (lib.Ieee.odd (suc (lib.Ieee.prec binary64)) false n k (lib.Ieee.low binary64)) (odd_sign (suc (lib.Ieee.prec binary64)) false n k (lib.Ieee.low binary64)) h
     go false = tt
 
-root_long : (x s : ℕ) → x * x ≤ s → Long_enough x (round_root binary64 s)
+root_long : (x s : ℕ) → x * x ≤ s → LongEnough x (round_root binary64 s)
 unfolding round_root kept
 root_long x s h =
     let k : ℕ = dropped binary64 s in
@@ -108,11 +108,11 @@ root_long x s h =
     let o : Ordering = compare (4 * s) ((2 * q + 1) * (2 * q + 1) * 2 ^ (2 * k)) in
     units_long (nearest q o) k x (λ z. enough (nearest q o) q (2 ^ k) x (nearest-ge q o) z (side_below x s k q h (root_above 53 (s / 2 ^ (2 * k)) (kept_digits s))))
 
-pub hypot_east : (s : Bool) (m : ℕ) (e : ℤ) (t : Bool) (n : ℕ) (d : ℤ) → Long_enough (count m e) (hypot (fin s m e) (fin t n d))
+pub hypot_east : (s : Bool) (m : ℕ) (e : ℤ) (t : Bool) (n : ℕ) (d : ℤ) → LongEnough (count m e) (hypot (fin s m e) (fin t n d))
 unfolding hypot
 hypot_east s m e t n d = root_long (count m e) (count m e * count m e + count n d * count n d) (omega arith)
 
-pub hypot_north : (s : Bool) (m : ℕ) (e : ℤ) (t : Bool) (n : ℕ) (d : ℤ) → Long_enough (count n d) (hypot (fin s m e) (fin t n d))
+pub hypot_north : (s : Bool) (m : ℕ) (e : ℤ) (t : Bool) (n : ℕ) (d : ℤ) → LongEnough (count n d) (hypot (fin s m e) (fin t n d))
 unfolding hypot
 hypot_north s m e t n d = root_long (count n d) (count m e * count m e + count n d * count n d) (omega arith)
 
@@ -163,7 +163,7 @@ some_units : (v d n : ℕ) → n ≡ v * d → 0 < n → 0 < v
 some_units zero d n q h = absurd (omega arith)
 some_units (suc v) d n q h = omega arith
 
-pub div_long : (s : Bool) (m : ℕ) (e : ℤ) (z : Float) → Long_enough (count m e) z → le z zero_float ≡ false → Small 1 (div (fin s m e) z)
+pub div_long : (s : Bool) (m : ℕ) (e : ℤ) (z : Float) → LongEnough (count m e) z → le z zero_float ≡ false → Small 1 (div (fin s m e) z)
 unfolding lib.Ieee.div
 div_long s m e nan h q = absurd h
 div_long s m e (inf t) h q = omega arith

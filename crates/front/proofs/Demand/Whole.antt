@@ -21,23 +21,23 @@ use Rattle.front.specs.Demand.{Givens, givens, going, stages, run, tally, handed
 use Rattle.front.specs.Velocity.{FrontVelocity}
 use Rattle.front.specs.LoadLaws.{LoadGranted, LoadRefused, RefusedCounts, FirstCounts}
 use Rattle.front.proofs.Demand.Rates.{Bounded, SmallPoint}
-use Rattle.front.proofs.Demand.Loading.{Load_is, load_law, load_none, Load_refusal, ring_refusal, none_refusal}
+use Rattle.front.proofs.Demand.Loading.{LoadIs, load_law, load_none, LoadRefusal, ring_refusal, none_refusal}
 use Rattle.front.proofs.Demand.Shapes.{Proper, proper_is, vertices, lines_sound}
 use Rattle.front.proofs.Demand.Runs.{rounds_done}
 use Rattle.front.proofs.Demand.Shown.{holds, demand, velocity}
 
 -- what loading leaves of n edges in r rings
 record Well (d : Float) (origin : PlanarPoint) (n r : ℕ) (l : Loaded) : Type 0 where
-  loads : Load_is Bounded n r l
+  loads : LoadIs Bounded n r l
   enough : 2 * r ≤ n
-  refusal : Load_refusal l.refusal
+  refusal : LoadRefusal l.refusal
   near : SmallPoint 30 origin
 
 outer_well : (d : Float) (ps : List Float) (c : ℕ) (back : Bool) → Proper 128 ps c → Well d (vertex_at ps 0) c 1 (load_ring ps c back (vertex_at ps 0) d loaded_nothing)
 outer_well d ps c back p =
     let o : SmallPoint 30 (vertex_at ps 0) = vertices ps c p.range 0 (omega (arith, p.three)) in
     record {
-      loads = subst (λ (n : ℕ). Load_is Bounded n 1 (load_ring ps c back (vertex_at ps 0) d loaded_nothing)) (zero-add c)
+      loads = subst (λ (n : ℕ). LoadIs Bounded n 1 (load_ring ps c back (vertex_at ps 0) d loaded_nothing)) (zero-add c)
           (load_law Bounded ps c back (vertex_at ps 0) d loaded_nothing (lines_sound ps c back (vertex_at ps 0) p.range o) 0 0 p.three (load_none Bounded));
       enough = omega (arith, p.three);
       refusal = ring_refusal ps c back (vertex_at ps 0) d loaded_nothing none_refusal;
@@ -58,7 +58,7 @@ well d origin n r l (outer ps c back q) = outer_well d ps c back (proper_is 128 
 well d origin n r l (hole {n = k} {r = i} {l = before} ps c q w) = hole_well d origin k i before ps c (proper_is 32 ps c q) (well d origin k i before w)
 
 -- no refusal of the loading is the one for want of an end
-other : (r : Refusal) → Load_refusal r → number r ≢ 18
+other : (r : Refusal) → LoadRefusal r → number r ≢ 18
 unfolding granted
 other r h q = go (h (ap (λ (k : ℕ). eqb k 0) q))
   where

@@ -1,0 +1,11 @@
+-- `front_edges::start_if` meets its contract. Assumes nothing.
+use Rattle.front.specs.Edges.{on_line_of, with_start}
+use mathlib.Core.Path.{refl}
+use Rattle.front_edges.proofs.start_if.Goals as goal
+
+pub returns-then-inside : goal.returns-then-inside
+unfolding with_start on_line_of
+returns-then-inside c = rw c.if-inside.true refl
+
+pub returns-else-inside : goal.returns-else-inside
+returns-else-inside c = rw c.if-inside.false refl

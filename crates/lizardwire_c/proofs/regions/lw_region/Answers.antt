@@ -1,0 +1,11 @@
+-- `lizardwire_c::regions::lw_region` meets its contract. Assumes nothing.
+use Rattle.region_c.specs.Told
+use Rattle.lizardwire_c.proofs.regions.lw_region.Goals as goal
+
+pub returns : goal.returns
+unfolding Told.told_region
+returns c =
+    record {
+      answered = simp (c.region.ensures, c.region_into-w.ensures.answered);
+      written = c.region_into-w.ensures.written;
+    }

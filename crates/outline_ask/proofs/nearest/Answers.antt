@@ -1,0 +1,24 @@
+-- `outline_ask::nearest` meets its contract. Assumes nothing.
+use Rattle.outline_ask.specs.Queries
+use Rattle.outline_ask.proofs.GrantedOrRefused.{neared_yes, neared_no}
+use mathlib.Core.Path.{sym, ap, ◌∙◌}
+use Rattle.outline.specs.Outlines.{ask_ring}
+use Rattle.outline_ask.proofs.nearest.Goals as goal
+
+pub returns-then-granted : goal.returns-then-granted
+unfolding Queries.nearest
+returns-then-granted c =
+    let ask-ring-gives = c.ask_ring-r.ensures in
+    let check-gives = c.check.ensures in
+    let nearest-to-gives = c.nearest_to-near.ensures in
+    let granted-gives = c.granted.ensures in
+    let yes1 = c.if-granted.true in
+    neared_yes _ _ (ask-ring-gives ∙ ap (ask_ring _ _) check-gives) _ _ _ nearest-to-gives c.distance.ensures (sym granted-gives ∙ yes1)
+
+pub returns-else-granted : goal.returns-else-granted
+unfolding Queries.nearest
+returns-else-granted c =
+    let ask-ring-gives = c.ask_ring-r.ensures in
+    let check-gives = c.check.ensures in
+    let granted-gives = c.granted.ensures in
+    neared_no _ _ (ask-ring-gives ∙ ap (ask_ring _ _) check-gives) _ (sym granted-gives ∙ c.if-granted.false)

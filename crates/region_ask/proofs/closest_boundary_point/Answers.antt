@@ -1,0 +1,22 @@
+-- `region_ask::closest_boundary_point` meets its contract. Assumes nothing.
+use mathlib.Core.Path.{sym, ap, ◌∙◌}
+use Rattle.region.specs.Queries
+use Rattle.region_ask.proofs.Feet.{footed_yes, footed_no}
+use Rattle.region_ask.proofs.closest_boundary_point.Goals as goal
+
+pub returns-then-granted : goal.returns-then-granted
+unfolding Queries.region_closest
+returns-then-granted c =
+    let ask-region-gives = c.ask_region-r.ensures in
+    let check-gives = c.check.ensures in
+    let granted-gives = c.granted.ensures in
+    let yes1 = c.if-granted.true in
+    footed_yes _ _ (ask-region-gives ∙ ap (Queries.ask_region _) check-gives) _ _ c.closest_boundary_point.ensures (sym granted-gives ∙ yes1)
+
+pub returns-else-granted : goal.returns-else-granted
+unfolding Queries.region_closest
+returns-else-granted c =
+    let ask-region-gives = c.ask_region-r.ensures in
+    let check-gives = c.check.ensures in
+    let granted-gives = c.granted.ensures in
+    footed_no _ _ (ask-region-gives ∙ ap (Queries.ask_region _) check-gives) _ (sym granted-gives ∙ c.if-granted.false)
