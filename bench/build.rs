@@ -1,4 +1,4 @@
-// Links the static library that `rt staticlib lizardwire_c` writes, and the C library's mathematics.
+// Links the static library that `tools/library` writes, and the C library's mathematics.
 fn main() {
     let top = std::path::Path::new(&std::env::var("CARGO_MANIFEST_DIR").unwrap()).join("../target/staticlib");
     println!("cargo:rustc-link-search=native={}", top.display());
