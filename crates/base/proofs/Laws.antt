@@ -23,6 +23,9 @@ pub no_round : {A : Type 0} (f : ℕ → A → A) (s : A) → rounds f 0 s ≡ s
 unfolding rounds
 no_round f s = refl
 
+-- what a counted loop without an early exit is proved by, its invariant being `state ≡ rounds f k start`
+pub ruleset counted = (no_round, next_round)
+
 -- a state that the body gives back in every round to come is the last one
 pub stays : {A : Type 0} (f : ℕ → A → A) (s t : A) (i d : ℕ) → rounds f i s ≡ t → ((k : ℕ) → f k t ≡ t) → rounds f (d + i) s ≡ t
 unfolding rounds

@@ -4,7 +4,7 @@
 ghost use Rattle.std.specs.Prelude.{◌≡◌, cond, ◌-◌};
 
 // a where the test holds, else b.
-pub fn choose(test: bool, a: usize, b: usize) -> usize
+pub fn choose<T: Copy>(test: bool, a: T, b: T) -> T
     ensures { result ≡ cond test a b }
 {
     if test { a } else { b }
@@ -14,5 +14,5 @@ pub fn choose(test: bool, a: usize, b: usize) -> usize
 pub fn less(a: usize, b: usize) -> usize
     ensures { result ≡ a - b }
 {
-    if b <= a { a - b } else { 0 }
+    a.saturating_sub(b)
 }

@@ -1,11 +1,15 @@
 -- The digits of a number, by cases. Assumes nothing.
-use Prim.Native.Nat.{ℕ, ◌+◌, ◌/◌, ◌%◌, ◌≤◌, ◌<◌}
-use native.Mathlib.Nat.{mod-eq_of_lt, div-one}
+use Prim.Native.Nat.{ℕ, zero, suc, ◌+◌, ◌-◌, ◌*◌, ◌^◌, ◌/◌, ◌%◌, ◌≤◌, ◌<◌}
+use native.Mathlib.Nat.{mod-eq_of_lt, le_antisymm}
+use native.Mathlib.Numerals.{add-one}
 use native.Mathlib.Omega.{arith}
 use mathlib.Core.Bool.{true, false, cond}
-use mathlib.Core.Path.{◌≡◌, refl, sym, ap, ◌∙◌}
-use mathlib.Core.List.{[], ◌∷◌}
-use lib.ListN.{length}
+use mathlib.Core.Path.{◌≡◌, refl, sym, ap, ◌∙◌, subst}
+use mathlib.Core.List.{List, [], ◌∷◌, ◌++◌}
+use lib.Dec.{lit≤}
+use lib.ListN.{length, drop, set}
+use lib.Seq.{sets-eq}
+use Rattle.std.proofs.lemmas.List.{append-nil, length-append}
 use lib.Ieee.{Float, binary64, eq, ne, to_bits}
 use borrow.Author.Tests.{lt-ltb, le-ltb}
 use Rattle.math.specs.Number.{zero_float}
@@ -13,6 +17,9 @@ use Rattle.math.proofs.Values.{differs_nan}
 use Rattle.format.specs.Fields.{comma}
 use Rattle.format.specs.Numerals.{decimal_digit, hex_digit, digit_step, bits_digits, printed_bits, count_digits}
 use Rattle.base.specs.Loop.{rounds}
+use Rattle.base.proofs.Laws.{next_round}
+use Rattle.format_digits.specs.Stores.{put}
+use Rattle.format_digits.proofs.Puts.{put_append}
 
 -- ---- one digit
 
@@ -20,9 +27,9 @@ pub hex_low : (d : ℕ) → d < 10 → d + 48 ≡ hex_digit d
 unfolding hex_digit
 hex_low d h = rw (lt-ltb d 10 h) refl
 
-pub hex_high : (d : ℕ) → 10 ≤ d → d + 87 ≡ hex_digit d
+pub hex_high : (d : ℕ) → 10 ≤ d → d - 10 + 97 ≡ hex_digit d
 unfolding hex_digit
-hex_high d h = rw (le-ltb d 10 h) refl
+hex_high d h = rw (le-ltb d 10 h) (omega arith)
 
 -- ---- a float's bits
 
@@ -40,27 +47,43 @@ other_bits x h = rw h refl
 
 -- ---- the sixteen digits
 
-pub sixteen : (bits d0 d1 d2 d3 d4 d5 d6 d7 d8 d9 d10 d11 d12 d13 d14 d15 : ℕ)
-    → d0 ≡ hex_digit (bits / 1152921504606846976 % 16)
-    → d1 ≡ hex_digit (bits / 72057594037927936 % 16)
-    → d2 ≡ hex_digit (bits / 4503599627370496 % 16)
-    → d3 ≡ hex_digit (bits / 281474976710656 % 16)
-    → d4 ≡ hex_digit (bits / 17592186044416 % 16)
-    → d5 ≡ hex_digit (bits / 1099511627776 % 16)
-    → d6 ≡ hex_digit (bits / 68719476736 % 16)
-    → d7 ≡ hex_digit (bits / 4294967296 % 16)
-    → d8 ≡ hex_digit (bits / 268435456 % 16)
-    → d9 ≡ hex_digit (bits / 16777216 % 16)
-    → d10 ≡ hex_digit (bits / 1048576 % 16)
-    → d11 ≡ hex_digit (bits / 65536 % 16)
-    → d12 ≡ hex_digit (bits / 4096 % 16)
-    → d13 ≡ hex_digit (bits / 256 % 16)
-    → d14 ≡ hex_digit (bits / 16 % 16)
-    → d15 ≡ hex_digit (bits % 16)
-    → (comma ∷ d0 ∷ d1 ∷ d2 ∷ d3 ∷ d4 ∷ d5 ∷ d6 ∷ d7 ∷ d8 ∷ d9 ∷ d10 ∷ d11 ∷ d12 ∷ d13 ∷ d14 ∷ d15 ∷ []) ≡ comma ∷ bits_digits bits
-unfolding bits_digits digit_step rounds
-sixteen bits d0 d1 d2 d3 d4 d5 d6 d7 d8 d9 d10 d11 d12 d13 d14 d15 e0 e1 e2 e3 e4 e5 e6 e7 e8 e9 e10 e11 e12 e13 e14 e15 =
-    rw (e0, e1, e2, e3, e4, e5, e6, e7, e8, e9, e10, e11, e12, e13, e14, e15 ∙ ap (λ (n : ℕ). hex_digit (n % 16)) (sym (div-one bits))) refl
+-- the field before the first digit
+abbrev pub unwritten : List ℕ
+unwritten = 44 ∷ 44 ∷ 44 ∷ 44 ∷ 44 ∷ 44 ∷ 44 ∷ 44 ∷ 44 ∷ 44 ∷ 44 ∷ 44 ∷ 44 ∷ 44 ∷ 44 ∷ 44 ∷ 44 ∷ []
+
+-- the first k digits
+abbrev pub digits_to : ℕ → ℕ → List ℕ
+digits_to bits k = rounds (digit_step bits) k []
+
+digits_many : (bits k : ℕ) → length (digits_to bits k) ≡ k
+unfolding rounds digit_step
+digits_many bits zero = refl
+digits_many bits (suc k) =
+    length-append (digits_to bits k) (hex_digit (bits / 2 ^ (4 * (15 - k)) % 16) ∷ []) ∙ ap (λ (n : ℕ). n + 1) (digits_many bits k) ∙ add-one k
+
+place : (k : ℕ) → k < 16 → 60 - 4 * k ≡ 4 * (15 - k)
+place k h = omega arith
+
+pub digit_stored : (bits k digit : ℕ) (field : List ℕ) → k < 16 → digit ≡ hex_digit (bits / 2 ^ (60 - 4 * k) % 16)
+    → field ≡ put unwritten 1 (digits_to bits k) → set field (k + 1) digit ≡ put unwritten 1 (digits_to bits (k + 1))
+unfolding digit_step put
+digit_stored bits k digit field h d e =
+    ap (λ (f : List ℕ). set f (k + 1) digit) e
+    ∙ ap (λ (n : ℕ). set (put unwritten 1 (digits_to bits k)) n digit) (at_end (length (digits_to bits k)) (digits_many bits k))
+    ∙ sym (put_append unwritten 1 (digits_to bits k) (digit ∷ []))
+    ∙ ap (λ (x : ℕ). put unwritten 1 (digits_to bits k ++ (x ∷ []))) (d ∙ ap (λ (n : ℕ). hex_digit (bits / 2 ^ n % 16)) (place k h))
+    ∙ ap (λ (xs : List ℕ). put unwritten 1 xs) (sym (next_round (digit_step bits) k []))
+  where
+    at_end : (n : ℕ) → n ≡ k → k + 1 ≡ 1 + n
+    at_end n p = omega arith
+
+pub sixteen : (bits k : ℕ) (field : List ℕ) → k ≤ 16 → 16 ≤ k → field ≡ put unwritten 1 (digits_to bits k) → field ≡ comma ∷ bits_digits bits
+unfolding bits_digits put
+sixteen bits k field l h e =
+    e ∙ ap (λ (n : ℕ). put unwritten 1 (digits_to bits n)) (le_antisymm l h)
+    ∙ sets-eq (digits_to bits 16) unwritten 1 (subst (λ (n : ℕ). 1 + n ≤ 17) (sym (digits_many bits 16)) (lit≤ tt))
+    ∙ ap (λ (n : ℕ). comma ∷ (digits_to bits 16 ++ drop (1 + n) unwritten)) (digits_many bits 16)
+    ∙ ap (λ (xs : List ℕ). comma ∷ xs) (append-nil (digits_to bits 16))
 
 -- ---- a count
 

@@ -1,15 +1,16 @@
 -- Laws of bytes that are stored one after the other. Assumes nothing.
-use Prim.Native.Nat.{ℕ, zero, suc, ◌+◌, ◌-◌, ◌≤◌, ◌<◌}
-use native.Mathlib.Nat.{add-zero, add-suc, suc-add, le_trans, le_of_lt, le_antisymm, le_step, le_of_eq}
+use Prim.Native.Nat.{ℕ, suc, ◌+◌, ◌-◌, ◌≤◌, ◌<◌}
+use native.Mathlib.Nat.{add-zero, add-suc, suc-add, le_trans, le_of_lt, le_antisymm, le_step, min-eq_left, min-eq_right}
+use Rattle.std.proofs.Common.{min}
 use native.Mathlib.Numerals.{add-one}
 use native.Mathlib.Omega.{arith}
-use mathlib.Core.Bool.{Bool, true, false, cond}
+use mathlib.Core.Bool.{Bool, true, false}
 use mathlib.Core.Path.{◌≡◌, refl, sym, ap, ◌∙◌, subst}
 use mathlib.Core.List.{List, [], ◌∷◌, ◌++◌}
-use lib.Dec.{ltb}
+use lib.Dec.{leb}
 use lib.ListN.{get_or, set, length, take, drop, take-append-drop}
 use lib.Seq.{sets, set_out, take-suc, length-sets, length-take-le, take-length, sets-eq, drop-set-lt}
-use borrow.Author.Tests.{ltb-true, ltb-false}
+use borrow.Author.Tests.{leb-true, leb-false}
 use Rattle.format_digits.specs.Stores.{put}
 
 pub put_none : (l : List ℕ) (at : ℕ) → put l at [] ≡ l
@@ -64,42 +65,31 @@ put_next l at bytes k d h =
     ∙ ap (λ vs. sets l at vs) (sym (take-suc bytes k d h) ∙ ap (λ (n : ℕ). take n bytes) (sym (add-one k)))
 
 -- as many as there is room for
-put_room : (l : List ℕ) (at : ℕ) (bytes : List ℕ) (n : ℕ)
-    → n ≡ cond (ltb (length bytes) (length l - at)) (length bytes) (length l - at) → put l at (take n bytes) ≡ put l at bytes
-put_room l at bytes n e = go (ltb (length bytes) (length l - at)) refl e
+put_room : (l : List ℕ) (at : ℕ) (bytes : List ℕ) (n : ℕ) → n ≡ min (length bytes) (length l - at) → put l at (take n bytes) ≡ put l at bytes
+put_room l at bytes n e = go (leb (length bytes) (length l - at)) refl
   where
     past : (x y z : ℕ) → z ≡ x - y → x ≤ y + z
     past x y z p = omega arith
 
-    go : (t : Bool) → ltb (length bytes) (length l - at) ≡ t → n ≡ cond t (length bytes) (length l - at) → put l at (take n bytes) ≡ put l at bytes
-    go true g h = ap (λ (k : ℕ). put l at (take k bytes)) h ∙ ap (λ vs. put l at vs) (take-length bytes)
-    go false g h =
-        let short : n ≤ length bytes = subst (λ (k : ℕ). k ≤ length bytes) (sym h) (ltb-false (length bytes) (length l - at) g) in
+    go : (t : Bool) → leb (length bytes) (length l - at) ≡ t → put l at (take n bytes) ≡ put l at bytes
+    go true g =
+        ap (λ (k : ℕ). put l at (take k bytes)) (e ∙ min-eq_left (leb-true (length bytes) (length l - at) g)) ∙ ap (λ vs. put l at vs) (take-length bytes)
+    go false g =
+        let few : length l - at ≤ length bytes = le_of_lt (leb-false (length bytes) (length l - at) g) in
+        let room : n ≡ length l - at = e ∙ min-eq_right few in
+        let short : n ≤ length bytes = subst (λ (k : ℕ). k ≤ length bytes) (sym room) few in
         sym (put_out (put l at (take n bytes)) (at + length (take n bytes)) (drop n bytes)
         (subst (λ (k : ℕ). k ≤ at + length (take n bytes)) (sym (put_length l at (take n bytes)))
-        (past (length l) at (length (take n bytes)) (length-take-le n bytes short ∙ h))))
+        (past (length l) at (length (take n bytes)) (length-take-le n bytes short ∙ room))))
         ∙ sym (put_append l at (take n bytes) (drop n bytes))
         ∙ ap (λ vs. put l at vs) (take-append-drop n bytes)
 
 -- ---- the walk that stores them
 
-module _ (l bytes : List ℕ) (at room n : ℕ) (e : room ≡ length l - at) (h : n ≡ cond (ltb (length bytes) room) (length bytes) room) where
-  at_most : (n ≤ length bytes) × (n ≤ length l - at)
-  at_most = go (ltb (length bytes) room) refl h
-    where
-      go : (t : Bool) → ltb (length bytes) room ≡ t → n ≡ cond t (length bytes) room → (n ≤ length bytes) × (n ≤ length l - at)
-      go true g q = (le_of_eq q, subst (λ (k : ℕ). n ≤ k) e (subst (λ (k : ℕ). k ≤ room) (sym q) (le_of_lt (ltb-true (length bytes) room g))))
-      go false g q = (subst (λ (k : ℕ). k ≤ length bytes) (sym q) (ltb-false (length bytes) room g), le_of_eq (q ∙ e))
-
-  pub some_bytes : n ≤ length bytes
-  some_bytes = at_most.0
-
-  pub some_room : n ≤ length l - at
-  some_room = at_most.1
-
-  pub all_stored : (k : ℕ) (out : List ℕ) → k ≤ n → n ≤ k → out ≡ put l at (take k bytes) → out ≡ put l at bytes
-  all_stored k out a b q =
-      q ∙ ap (λ (m : ℕ). put l at (take m bytes)) (le_antisymm a b) ∙ put_room l at bytes n (h ∙ ap (λ (m : ℕ). cond (ltb (length bytes) m) (length bytes) m) e)
+pub all_stored : (l bytes : List ℕ) (at room n k : ℕ) (out : List ℕ) → room ≡ length l - at → n ≡ min (length bytes) room → k ≤ n → n ≤ k
+    → out ≡ put l at (take k bytes) → out ≡ put l at bytes
+all_stored l bytes at room n k out e h a b q =
+    q ∙ ap (λ (m : ℕ). put l at (take m bytes)) (le_antisymm a b) ∙ put_room l at bytes n (h ∙ ap (λ (m : ℕ). min (length bytes) m) e)
 
 pub one_stored : (l : List ℕ) (at : ℕ) (bytes : List ℕ) (n k d : ℕ) (out : List ℕ) → k < n → n ≤ length bytes → out ≡ put l at (take k bytes)
     → set out (at + k) (get_or bytes k d) ≡ put l at (take (k + 1) bytes)

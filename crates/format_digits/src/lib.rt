@@ -12,7 +12,7 @@ pub(crate) fn hex_digit(n: u64) -> u8
     ensures { result ≡ Numerals.hex_digit (n % 16) }
 {
     let d = (n % 16) as u8;
-    if d < 10 { d + 48 } else { d + 87 }
+    if d < 10 { d + b'0' } else { d - 10 + b'a' }
 }
 
 // The byte of a decimal digit, the last of n.
@@ -20,7 +20,7 @@ pub(crate) fn decimal_digit(n: usize) -> u8
     ensures { result ≡ Numerals.decimal_digit (n % 10) }
 {
     let d = (n % 10) as u8;
-    d + 48
+    d + b'0'
 }
 
 // The bits that a float prints as: none of a zero, of either sign.
@@ -28,7 +28,7 @@ pub(crate) fn printed_bits(x: f64) -> u64
     ensures { result ≡ Numerals.printed_bits x }
 {
     if x != x {
-        return 9221120237041090560;
+        return 0x7ff8_0000_0000_0000;
     }
     if x == 0.0 {
         return 0;
@@ -40,25 +40,11 @@ pub(crate) fn printed_bits(x: f64) -> u64
 pub(crate) fn bits_field(bits: u64) -> [u8; 17]
     ensures { result ≡ comma ∷ Numerals.bits_digits bits }
 {
-    [
-        44,
-        hex_digit(bits / 1152921504606846976),
-        hex_digit(bits / 72057594037927936),
-        hex_digit(bits / 4503599627370496),
-        hex_digit(bits / 281474976710656),
-        hex_digit(bits / 17592186044416),
-        hex_digit(bits / 1099511627776),
-        hex_digit(bits / 68719476736),
-        hex_digit(bits / 4294967296),
-        hex_digit(bits / 268435456),
-        hex_digit(bits / 16777216),
-        hex_digit(bits / 1048576),
-        hex_digit(bits / 65536),
-        hex_digit(bits / 4096),
-        hex_digit(bits / 256),
-        hex_digit(bits / 16),
-        hex_digit(bits),
-    ]
+    let mut field = [b','; 17];
+    for k in 0..16 {
+        field[k + 1] = hex_digit(bits >> (60 - 4 * k));
+    }
+    field
 }
 
 // A comma and the 16 digits of a float.
@@ -85,12 +71,9 @@ pub fn count_size(n: usize) -> usize
 pub fn put_bytes(bytes: &[u8], out: &mut [u8], at: usize)
     ensures { out.new ≡ put out.old at bytes.now }
 {
-    let room = base::less(out.len(), at);
-    let n = base::choose(bytes.len() < room, bytes.len(), room);
-    let mut k = 0usize;
-    while k < n {
+    let n = bytes.len().min(base::less(out.len(), at));
+    for k in 0..n {
         out[at + k] = bytes[k];
-        k += 1;
     }
 }
 
@@ -101,10 +84,10 @@ pub fn put_count(n: usize, out: &mut [u8], at: usize)
     let last = decimal_digit(n);
     let middle = decimal_digit(n / 10);
     if n < 10 {
-        put_bytes(&[44, last], out, at);
+        put_bytes(&[b',', last], out, at);
     } else if n < 100 {
-        put_bytes(&[44, middle, last], out, at);
+        put_bytes(&[b',', middle, last], out, at);
     } else {
-        put_bytes(&[44, decimal_digit(n / 100), middle, last], out, at);
+        put_bytes(&[b',', decimal_digit(n / 100), middle, last], out, at);
     }
 }

@@ -2,6 +2,7 @@
 use Prim.Native.Nat.{ℕ, ◌+◌, ◌-◌, ◌≤◌, ◌<◌}
 use native.Mathlib.Nat.{le_antisymm, sub_self}
 use native.Mathlib.Omega.{arith}
+use Rattle.std.proofs.Common.{max}
 use mathlib.Core.Bool.{Bool, true, false, cond}
 use mathlib.Core.Path.{◌≡◌, sym, ap, ◌∙◌}
 use mathlib.Core.List.{List}
@@ -42,9 +43,13 @@ module _ (line : List ℕ) (start : ℕ) where
   found at c (s, h, e) =
       sym (stays_to (end_step comma line) start at (at - start) (length line - start) h (sym e) (step at true (eq-eqb (get_or line at 0) comma c)))
 
-  pub gone : (at : ℕ) → length line ≤ at → EndTo line start at → at ≡ field_end line start
+  pub gone : (at end : ℕ) → length line ≤ at → end ≡ max (length line) start → EndTo line start at → end ≡ field_end line start
   unfolding field_end part_end
-  gone at l (s, h, e) = e ∙ ap (λ (k : ℕ). rounds (end_step comma line) k start) (le_antisymm h (less (length line) at l))
+  gone at end l c (s, h, e) =
+      last (length line) at end l s h c ∙ e ∙ ap (λ (k : ℕ). rounds (end_step comma line) k start) (le_antisymm h (less (length line) at l))
     where
       less : (n a : ℕ) → n ≤ a → n - start ≤ a - start
       less n a h = omega arith
+
+      last : (n a e : ℕ) → n ≤ a → start ≤ a → a - start ≤ n - start → e ≡ max n start → e ≡ a
+      last n a e p q r m = omega arith

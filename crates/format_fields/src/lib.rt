@@ -1,121 +1,60 @@
 // The field that starts at a place of a job line, as the side or as a number.
 #![tactic(auto)]
 
-ghost use Rattle.std.specs.Prelude.{◌≡◌, get_or};
-ghost use Rattle.math.specs.Number.{zero_float};
+ghost use Rattle.std.specs.Prelude.{◌≡◌, false, MatchOption};
 ghost use Rattle.format.specs.Fields;
-ghost use Rattle.format.specs.Lines.{same_bytes};
-ghost use Rattle.format.specs.JobLines;
-ghost use Rattle.format.specs.Numerals.{is_float, float_of, is_count, count_of};
-ghost use Rattle.format_fields.specs.Places.{ReadAt, SideOf};
+ghost use Rattle.format.specs.Fields.{fields};
+ghost use Rattle.format.specs.JobLines.{side_field, is_side};
+ghost use Rattle.format_fields.specs.Places.{field_at, ReadAt, SideAt};
 
-// The side, and where the next field starts.
+use format_numerals::Number;
+
+// What the field at a place stands for, and where the next field starts.
 #[derive(Clone, Copy)]
-pub struct Side {
-    pub formed: bool,
-    pub outward: bool,
+pub struct At<T> {
+    pub value: T,
     pub next: usize,
-}
-
-// A count, and where the next field starts.
-#[derive(Clone, Copy)]
-pub struct CountAt {
-    pub formed: bool,
-    pub value: usize,
-    pub next: usize,
-}
-
-// A float, and where the next field starts.
-#[derive(Clone, Copy)]
-pub struct FloatAt {
-    pub formed: bool,
-    pub value: f64,
-    pub next: usize,
-}
-
-// Byte k; 0 past the end.
-pub fn byte_at(bytes: &[u8], k: usize) -> u8
-    ensures { result ≡ get_or bytes.now k 0 }
-{
-    if k < bytes.len() { bytes[k] } else { 0 }
-}
-
-pub(crate) fn is_inset(field: &[u8]) -> bool
-    ensures { result ≡ same_bytes field.now JobLines.inset_word }
-{
-    let ins = (byte_at(field, 0) == 105) & (byte_at(field, 1) == 110) & (byte_at(field, 2) == 115);
-    (field.len() == 5) & (ins & (byte_at(field, 3) == 101) & (byte_at(field, 4) == 116))
-}
-
-pub(crate) fn is_outset(field: &[u8]) -> bool
-    ensures { result ≡ same_bytes field.now JobLines.outset_word }
-{
-    let out = (byte_at(field, 0) == 111) & (byte_at(field, 1) == 117) & (byte_at(field, 2) == 116);
-    let outs = out & (byte_at(field, 3) == 115);
-    (field.len() == 6) & (outs & (byte_at(field, 4) == 101) & (byte_at(field, 5) == 116))
 }
 
 // Where the field that starts at `start` ends: at a comma, or at the end of the line.
 pub(crate) fn field_end(line: &[u8], start: usize) -> usize
     ensures { result ≡ Fields.field_end line.now start }
 {
-    let mut at = start;
-    while at < line.len() {
-        if line[at] == 44 {
+    for at in start..line.len() {
+        if line[at] == b',' {
             return at;
         }
-        at += 1;
     }
-    at
+    line.len().max(start)
 }
 
-pub fn side_of(line: &[u8]) -> Side
-    ensures { SideOf line.now result.formed result.outward result.next }
+// The side, the first field of a line: whether it is `outset`. None where it is not `inset` either.
+pub fn side_of(line: &[u8]) -> Option<At<bool>>
+    ensures { MatchOption result (is_side (side_field (fields line.now)) ≡ false) (SideAt line.now) }
 {
     let end = field_end(line, 0);
-    let inward = is_inset(&line[..end]);
-    let outward = is_outset(&line[..end]);
-    Side {
-        formed: inward | outward,
-        outward: outward,
+    let field = &line[..end];
+    let outward = field == b"outset".as_slice();
+    if outward | (field == b"inset".as_slice()) {
+        return Some(At {
+            value: outward,
+            next: end + 1,
+        });
+    }
+    None
+}
+
+// The number at a place of a line. None where the field there is none, or where the place is past the end of the line.
+pub fn number_at<T: Number>(line: &[u8], at: usize) -> Option<At<T>>
+    ensures { MatchOption result (T.formed (field_at line.now at) ≡ false) (ReadAt T.formed T.value_of line.now at) }
+{
+    if line.len() < at {
+        return None;
+    }
+    let end = field_end(line, at);
+    let value = T::read(&line[at..end])?;
+    Some(At {
+        value,
         next: end + 1,
-    }
-}
-
-pub fn count_at(line: &[u8], at: usize) -> CountAt
-    ensures { ReadAt is_count count_of 0 line.now at result.formed result.value result.next }
-{
-    if line.len() < at {
-        return CountAt {
-            formed: false,
-            value: 0,
-            next: at,
-        };
-    }
-    let end = field_end(line, at);
-    let x = format_numerals::count_field(&line[at..end]);
-    CountAt {
-        formed: x.formed,
-        value: x.value,
-        next: base::choose(x.formed, end + 1, at),
-    }
-}
-
-pub fn float_at(line: &[u8], at: usize) -> FloatAt
-    ensures { ReadAt is_float float_of zero_float line.now at result.formed result.value result.next }
-{
-    if line.len() < at {
-        return FloatAt {
-            formed: false,
-            value: 0.0,
-            next: at,
-        };
-    }
-    let end = field_end(line, at);
-    let x = format_numerals::float_field(&line[at..end]);
-    FloatAt {
-        formed: x.formed,
-        value: x.value,
-        next: base::choose(x.formed, end + 1, at),
-    }
+    })
 }

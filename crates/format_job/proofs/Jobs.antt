@@ -12,6 +12,7 @@ use Rattle.format.specs.Fields.{fields, fields_from}
 use Rattle.format.specs.JobLines.{coordinate_count, numbers_formed, job_of, ParsedJob, ill_formed, parse_job}
 use Rattle.format.specs.Lines.{counts_of, floats_of}
 use Rattle.format_job.specs.declared.Parsed.{Parsed}
+use Rattle.format_job.specs.declared.head.Head.{Head}
 use Rattle.format_job.specs.Reads.{parse_refusal, unparsed, parsed_all, answered_by, parse_answered, front_written, lengths_written, coordinates_written}
 use Rattle.format_job.specs.Reads.{lists_formed, lists_refusal, ListsRead, is_outward, ring_number, head_fits, HeadOf}
 use Rattle.format_job.proofs.Parses.{parse_is, job_no}
@@ -20,8 +21,11 @@ use Rattle.format_job.proofs.Shifts.{counts_same, coordinates_same, numbers_same
 -- the three promises of `parse_job`
 abbrev pub Told : List ℕ → List ℕ → List ℕ → List Float → List Float → Parsed → Type 0
 Told line lengths₀ lengths₁ coordinates₀ coordinates₁ x =
-    (x ≡ parse_answered line lengths₀ coordinates₀)
-    × ((lengths₁ ≡ lengths_written line lengths₀ coordinates₀) × (coordinates₁ ≡ coordinates_written line lengths₀ coordinates₀))
+    record {
+      answered : x ≡ parse_answered line lengths₀ coordinates₀;
+      counted : lengths₁ ≡ lengths_written line lengths₀ coordinates₀;
+      numbered : coordinates₁ ≡ coordinates_written line lengths₀ coordinates₀;
+    }
 
 none_given : (lengths : List ℕ) (coordinates : List Float) → parse_refusal ill_formed lengths coordinates ≡ Job
 unfolding parse_refusal ill_formed open_refusals
@@ -68,33 +72,29 @@ module _ (line : List ℕ) where
       go false e = absurd (false≢true (sym job_no ∙ ap granted (refusal_no (drop 3 fs) r lengths coordinates e) ∙ g))
 
   -- a head that does not fit
-  pub unread : (lengths : List ℕ) (coordinates : List Float) (formed outward : Bool) (distance : Float) (rings next : ℕ) → HeadOf line formed outward distance rings next → formed ≡ false
+  pub unread : (lengths : List ℕ) (coordinates : List Float) → head_fits line ≡ false
       → (x : Parsed) → x ≡ unparsed Job → Told line lengths lengths coordinates coordinates x
   unfolding parse_answered answered_by lengths_written coordinates_written front_written
-  unread lengths coordinates formed outward distance rings next h f x p =
-      let e : parse_refusal (parse_job line) lengths coordinates ≡ Job = none_found lengths coordinates (parse_by false (no_head (sym h.formed_is ∙ f))) in
-      (rw (e, job_no) p, (rw (e, job_no) refl, rw (e, job_no) refl))
+  unread lengths coordinates f x p =
+      let e : parse_refusal (parse_job line) lengths coordinates ≡ Job = none_found lengths coordinates (parse_by false (no_head f)) in
+      record { answered = rw (e, job_no) p; counted = rw (e, job_no) refl; numbered = rw (e, job_no) refl }
 
   -- one that does, and the lists after it
-  module _ (lengths₀ lengths₁ : List ℕ) (coordinates₀ coordinates₁ : List Float) (formed outward : Bool) (distance : Float) (rings next : ℕ)
-      (h : HeadOf line formed outward distance rings next) (t : formed ≡ true) (y : Refusal) (count : ℕ)
-      (l₀ : ListsRead (fields_from line next) rings lengths₀ lengths₁ coordinates₀ coordinates₁ y count) where
+  module _ (lengths₀ lengths₁ : List ℕ) (coordinates₀ coordinates₁ : List Float) (hd : Head) (h : HeadOf line hd) (y : Refusal) (count : ℕ)
+      (l₀ : ListsRead (fields_from line hd.next) hd.rings lengths₀ lengths₁ coordinates₀ coordinates₁ y count) where
     l : ListsRead (drop 3 fs) r lengths₀ lengths₁ coordinates₀ coordinates₁ y count
     l =
-        subst (λ (n : ℕ). ListsRead (drop 3 fs) n lengths₀ lengths₁ coordinates₀ coordinates₁ y count) (h.rings_is t)
-        (subst (λ (gs : List (List ℕ)). ListsRead gs rings lengths₀ lengths₁ coordinates₀ coordinates₁ y count) (h.rest t) l₀)
+        subst (λ (n : ℕ). ListsRead (drop 3 fs) n lengths₀ lengths₁ coordinates₀ coordinates₁ y count) h.rings_is
+        (subst (λ (gs : List (List ℕ)). ListsRead gs hd.rings lengths₀ lengths₁ coordinates₀ coordinates₁ y count) h.rest l₀)
 
     abbrev asked : Refusal
     asked = lists_refusal (drop 3 fs) r lengths₀ coordinates₀
 
-    head_yes : head_fits line ≡ true
-    head_yes = sym h.formed_is ∙ t
-
     same : parse_refusal (parse_job line) lengths₀ coordinates₀ ≡ asked
-    same = refusal_by lengths₀ coordinates₀ head_yes (lists_formed (drop 3 fs) r) refl
+    same = refusal_by lengths₀ coordinates₀ h.fits (lists_formed (drop 3 fs) r) refl
 
     value_is : granted asked ≡ true → parse_job line ≡ v
-    value_is g = parse_by true (lists_by true head_yes (formed_by lengths₀ coordinates₀ g))
+    value_is g = parse_by true (lists_by true h.fits (formed_by lengths₀ coordinates₀ g))
 
     lengths_value : granted asked ≡ true → counts_of (drop 3 fs) 0 r ≡ (parse_job line).lengths
     unfolding job_of
@@ -125,22 +125,24 @@ module _ (line : List ℕ) where
         ∙ ap (λ (c : Bool). cond c (parsed_all (parse_job line)) (unparsed y)) g
 
     pub refused : (b : Bool) → b ≡ granted y → b ≡ false → (x : Parsed) → x ≡ unparsed y → Told line lengths₀ lengths₁ coordinates₀ coordinates₁ x
-    refused b g f x p = (p ∙ sym (read_by false (sym g ∙ f)), (lengths_are, coordinates_are))
+    refused b g f x p = record { answered = p ∙ sym (read_by false (sym g ∙ f)); counted = lengths_are; numbered = coordinates_are }
 
     given_by : (d : Float) (o : Bool) (n k : ℕ) → o ≡ v.outward → d ≡ v.distance → n ≡ length v.lengths → k ≡ length v.coordinates
         → ◌≡◌ {A = Parsed} (record { refusal = Granted; outward = o; distance = d; rings = n; count = k }) (parsed_all v)
     unfolding parsed_all
     given_by d o n k p q s u = rw (p, q, s, u) refl
 
-    v_parts : granted y ≡ true → ◌≡◌ {A = Parsed} (record { refusal = Granted; outward = outward; distance = distance; rings = rings; count = count }) (parsed_all v)
+    v_parts : granted y ≡ true → ◌≡◌ {A = Parsed} (record { refusal = Granted; outward = hd.outward; distance = hd.distance; rings = hd.rings; count = count }) (parsed_all v)
     unfolding job_of coordinate_count
     v_parts g =
-        given_by distance outward rings count (h.outward_is t) (h.distance_is t) (h.rings_is t ∙ sym (counts_size fs 3 r))
+        given_by hd.distance hd.outward hd.rings count h.outward_is h.distance_is (h.rings_is ∙ sym (counts_size fs 3 r))
         (l.count_is ∙ ap (λ (b : Bool). cond b (length (drop 3 fs) - r) 0) (ap granted (sym l.refusal_is) ∙ g) ∙ sym (coordinates_size fs 3 r))
 
     pub given : (b : Bool) → b ≡ granted y → b ≡ true
-        → Told line lengths₀ lengths₁ coordinates₀ coordinates₁ (record { refusal = Granted; outward = outward; distance = distance; rings = rings; count = count })
-    given b g f = (
-      v_parts (sym g ∙ f) ∙ sym (ap parsed_all (value_is (ap granted (sym l.refusal_is) ∙ sym g ∙ f))) ∙ sym (read_by true (sym g ∙ f)),
-      (lengths_are, coordinates_are),
-    )
+        → Told line lengths₀ lengths₁ coordinates₀ coordinates₁ (record { refusal = Granted; outward = hd.outward; distance = hd.distance; rings = hd.rings; count = count })
+    given b g f =
+        record {
+          answered = v_parts (sym g ∙ f) ∙ sym (ap parsed_all (value_is (ap granted (sym l.refusal_is) ∙ sym g ∙ f))) ∙ sym (read_by true (sym g ∙ f));
+          counted = lengths_are;
+          numbered = coordinates_are;
+        }

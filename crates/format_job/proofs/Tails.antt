@@ -7,6 +7,7 @@ use lib.Dec.{leb}
 use lib.Ieee.{Float}
 use lib.ListN.{get_or, length, drop, length-drop}
 use borrow.Author.Tests.{le-leb, lt-leb}
+use Rattle.std.proofs.Common.{Option, None, Some}
 use Rattle.error.specs.declared.Refusal.{Refusal}
 use Rattle.error.specs.declared.Refusal.TheVariants.{Granted, Short, Job}
 use Rattle.error.specs.Refusals.{granted, open_refusals}
@@ -14,7 +15,7 @@ use Rattle.format.specs.Numerals.{is_float, float_of, is_count, count_of}
 use Rattle.format.specs.Fields.{fields_from}
 use Rattle.format.specs.Lines.{are_counts, counts_test_step, counts_of, counts_step, are_floats, floats_test_step, floats_of, floats_step}
 use Rattle.base.proofs.Elements.{made_length}
-use Rattle.format_job.specs.Reads.{Taken, taken, WalkedAt, AllAt, front_written, room_refusal, lists_formed, lists_refusal, ListsRead}
+use Rattle.format_job.specs.Reads.{Taken, taken, all_taken, WalkedAt, AllAt, front_written, room_refusal, lists_formed, lists_refusal, ListsRead}
 use Rattle.format_job.proofs.Parses.{taken_tests, job_no}
 use Rattle.format_job.proofs.Held.{held_from}
 
@@ -35,22 +36,22 @@ module _ (line : List ℕ) (start r : ℕ) where
 
   -- ---- the first walk
 
-  counts_sound : (before after : List ℕ) (sound : Bool) (next : ℕ) → WalkedAt is_count count_of line start r before after sound next → sound ≡ are_counts gs 0 r
+  counts_sound : (before : List ℕ) (t : Bool) → (taken is_count count_of gs r before).sound ≡ t → are_counts gs 0 r ≡ t
   unfolding are_counts counts_test_step
-  counts_sound before after sound next w = w.sound_is ∙ taken_tests is_count count_of gs 0 r before
+  counts_sound before t e = sym (taken_tests is_count count_of gs 0 r before) ∙ e
 
   floats_taken : (next : ℕ) (before : List Float) → fields_from line next ≡ drop r gs
       → taken is_float float_of (fields_from line next) (length (fields_from line next)) before ≡ taken is_float float_of (drop r gs) m before
   floats_taken next before e =
       ap (λ (fs : List (List ℕ)). taken is_float float_of fs (length fs) before) e ∙ ap (λ (n : ℕ). taken is_float float_of (drop r gs) n before) (length-drop r gs)
 
-  floats_sound : (next : ℕ) (before after : List Float) (sound : Bool) (count : ℕ) → fields_from line next ≡ drop r gs → AllAt is_float float_of line next before after sound count → sound ≡ are_floats gs r m
+  floats_sound : (next : ℕ) (before : List Float) (t : Bool) → fields_from line next ≡ drop r gs → (all_taken is_float float_of line next before).sound ≡ t → are_floats gs r m ≡ t
   unfolding are_floats floats_test_step
-  floats_sound next before after sound count e a =
-      a.sound_is ∙ ap (λ (t : Taken Float). t.sound) (floats_taken next before e) ∙ taken_tests is_float float_of gs r m before
+  floats_sound next before t e s =
+      sym (ap (λ (t : Taken Float). t.sound) (floats_taken next before e) ∙ taken_tests is_float float_of gs r m before) ∙ s
 
-  floats_count : (next : ℕ) (before after : List Float) (sound : Bool) (count : ℕ) → fields_from line next ≡ drop r gs → AllAt is_float float_of line next before after sound count → sound ≡ true → count ≡ m
-  floats_count next before after sound count e a t = a.count_is t ∙ ap (λ (fs : List (List ℕ)). length fs) e ∙ length-drop r gs
+  floats_count : (next count : ℕ) → fields_from line next ≡ drop r gs → count ≡ length (fields_from line next) → count ≡ m
+  floats_count next count e c = c ∙ ap (λ (fs : List (List ℕ)). length fs) e ∙ length-drop r gs
 
   -- ---- what is handed back
 
@@ -70,86 +71,84 @@ module _ (line : List ℕ) (start r : ℕ) where
     unfolding lists_refusal
     unformed f = refused_by Job (ap (λ (t : Bool). cond t (room_refusal r m lengths₀ coordinates₀) Job) f) job_no
 
-    module _ (sound : Bool) (next : ℕ) (w : WalkedAt is_count count_of line start r [] [] sound next) where
-      pub no_counts : sound ≡ false → ListsRead gs r lengths₀ lengths₀ coordinates₀ coordinates₀ Job 0
+    pub no_counts : (after : List ℕ) → WalkedAt is_count count_of line start r [] after None → ListsRead gs r lengths₀ lengths₀ coordinates₀ coordinates₀ Job 0
+    unfolding lists_formed
+    no_counts after w = unformed (ap (λ (t : Bool). t && are_floats gs r m) (counts_sound [] false w.rest))
+
+    module _ (next : ℕ) (looked : List ℕ) (w : WalkedAt is_count count_of line start r [] looked (Some next)) where
+      counts_yes : are_counts gs 0 r ≡ true
+      counts_yes = counts_sound [] true w.rest.0
+
+      pub no_floats : (after : List Float) → AllAt is_float float_of line next [] after None → ListsRead gs r lengths₀ lengths₀ coordinates₀ coordinates₀ Job 0
       unfolding lists_formed
-      no_counts f = unformed (ap (λ (t : Bool). t && are_floats gs r m) (sym (counts_sound [] [] sound next w) ∙ f))
+      no_floats after a = unformed (ap (λ (t : Bool). t && are_floats gs r m) counts_yes ∙ floats_sound next [] false w.rest.1 a.count)
 
-      module _ (s : sound ≡ true) (whole : Bool) (count : ℕ) (a : AllAt is_float float_of line next [] [] whole count) where
-        pub no_floats : whole ≡ false → ListsRead gs r lengths₀ lengths₀ coordinates₀ coordinates₀ Job 0
+      module _ (count : ℕ) (seen : List Float) (a : AllAt is_float float_of line next [] seen (Some count)) where
+        floats_yes : are_floats gs r m ≡ true
+        floats_yes = floats_sound next [] true w.rest.1 a.count.0
+
+        formed : lists_formed gs r ≡ true
         unfolding lists_formed
-        no_floats f =
-            unformed (ap (λ (t : Bool). t && are_floats gs r m) (sym (counts_sound [] [] sound next w) ∙ s) ∙ sym (floats_sound next [] [] whole count (w.rest s) a) ∙ f)
+        formed = ap (λ (b : Bool). b && are_floats gs r m) counts_yes ∙ floats_yes
 
-        module _ (t : whole ≡ true) where
-          counts_yes : are_counts gs 0 r ≡ true
-          counts_yes = sym (counts_sound [] [] sound next w) ∙ s
+        number : count ≡ m
+        number = floats_count next count w.rest.1 a.count.1
 
-          floats_yes : are_floats gs r m ≡ true
-          floats_yes = sym (floats_sound next [] [] whole count (w.rest s) a) ∙ t
+        room : lists_refusal gs r lengths₀ coordinates₀ ≡ room_refusal r m lengths₀ coordinates₀
+        unfolding lists_refusal
+        room = ap (λ (b : Bool). cond b (room_refusal r m lengths₀ coordinates₀) Job) formed
 
-          formed : lists_formed gs r ≡ true
-          unfolding lists_formed
-          formed = ap (λ (b : Bool). b && are_floats gs r m) counts_yes ∙ floats_yes
+        few_counts : length lengths₀ < r → lists_refusal gs r lengths₀ coordinates₀ ≡ Short r
+        unfolding room_refusal
+        few_counts h = room ∙ ap (λ (b : Bool). cond b (cond (leb m (length coordinates₀)) Granted (Short m)) (Short r)) (lt-leb r (length lengths₀) h)
 
-          number : count ≡ m
-          number = floats_count next [] [] whole count (w.rest s) a t
+        pub short_counts : length lengths₀ < r → ListsRead gs r lengths₀ lengths₀ coordinates₀ coordinates₀ (Short r) 0
+        short_counts h = refused_by (Short r) (few_counts h) (short_no r)
 
-          room : lists_refusal gs r lengths₀ coordinates₀ ≡ room_refusal r m lengths₀ coordinates₀
-          unfolding lists_refusal
-          room = ap (λ (b : Bool). cond b (room_refusal r m lengths₀ coordinates₀) Job) formed
+        few_coordinates : r ≤ length lengths₀ → length coordinates₀ < m → lists_refusal gs r lengths₀ coordinates₀ ≡ Short m
+        unfolding room_refusal
+        few_coordinates h l =
+            room ∙ ap (λ (b : Bool). cond b (cond (leb m (length coordinates₀)) Granted (Short m)) (Short r)) (le-leb r (length lengths₀) h)
+            ∙ ap (λ (b : Bool). cond b Granted (Short m)) (lt-leb m (length coordinates₀) l)
 
-          few_counts : length lengths₀ < r → lists_refusal gs r lengths₀ coordinates₀ ≡ Short r
-          unfolding room_refusal
-          few_counts h = room ∙ ap (λ (b : Bool). cond b (cond (leb m (length coordinates₀)) Granted (Short m)) (Short r)) (lt-leb r (length lengths₀) h)
+        pub short_coordinates : r ≤ length lengths₀ → length coordinates₀ < count → ListsRead gs r lengths₀ lengths₀ coordinates₀ coordinates₀ (Short count) 0
+        short_coordinates h l =
+            subst (λ (n : ℕ). ListsRead gs r lengths₀ lengths₀ coordinates₀ coordinates₀ (Short n) 0) (sym number)
+            (refused_by (Short m) (few_coordinates h (subst (λ (n : ℕ). length coordinates₀ < n) number l)) (short_no m))
 
-          pub short_counts : length lengths₀ < r → ListsRead gs r lengths₀ lengths₀ coordinates₀ coordinates₀ (Short r) 0
-          short_counts h = refused_by (Short r) (few_counts h) (short_no r)
+        all_room : r ≤ length lengths₀ → m ≤ length coordinates₀ → lists_refusal gs r lengths₀ coordinates₀ ≡ Granted
+        unfolding room_refusal
+        all_room h l =
+            room ∙ ap (λ (b : Bool). cond b (cond (leb m (length coordinates₀)) Granted (Short m)) (Short r)) (le-leb r (length lengths₀) h)
+            ∙ ap (λ (b : Bool). cond b Granted (Short m)) (le-leb m (length coordinates₀) l)
 
-          few_coordinates : r ≤ length lengths₀ → length coordinates₀ < m → lists_refusal gs r lengths₀ coordinates₀ ≡ Short m
-          unfolding room_refusal
-          few_coordinates h l =
-              room ∙ ap (λ (b : Bool). cond b (cond (leb m (length coordinates₀)) Granted (Short m)) (Short r)) (le-leb r (length lengths₀) h)
-              ∙ ap (λ (b : Bool). cond b Granted (Short m)) (lt-leb m (length coordinates₀) l)
+        lengths_held : (lengths₁ : List ℕ) → r ≤ length lengths₀ → lengths₁ ≡ (taken is_count count_of gs r lengths₀).out → lengths₁ ≡ counts_of gs 0 r ++ drop (length (counts_of gs 0 r)) lengths₀
+        unfolding counts_of counts_step are_counts counts_test_step
+        lengths_held lengths₁ h q =
+            held_from is_count count_of gs 0 r lengths₀ (counts_of gs 0 r) lengths₁ refl q counts_yes
+            (subst (λ (n : ℕ). n ≤ length lengths₀) (sym (made_length (λ k. count_of (get_or gs (0 + k) [])) r)) h)
 
-          pub short_coordinates : r ≤ length lengths₀ → length coordinates₀ < count → ListsRead gs r lengths₀ lengths₀ coordinates₀ coordinates₀ (Short count) 0
-          short_coordinates h l =
-              subst (λ (n : ℕ). ListsRead gs r lengths₀ lengths₀ coordinates₀ coordinates₀ (Short n) 0) (sym number)
-              (refused_by (Short m) (few_coordinates h (subst (λ (n : ℕ). length coordinates₀ < n) number l)) (short_no m))
+        coordinates_held : (coordinates₁ : List Float) → m ≤ length coordinates₀ →
+            coordinates₁ ≡ (taken is_float float_of (drop r gs) m coordinates₀).out →
+            coordinates₁ ≡ floats_of gs r m ++ drop (length (floats_of gs r m)) coordinates₀
+        unfolding floats_of floats_step are_floats floats_test_step
+        coordinates_held coordinates₁ h q =
+            held_from is_float float_of gs r m coordinates₀ (floats_of gs r m) coordinates₁ refl q floats_yes
+            (subst (λ (n : ℕ). n ≤ length coordinates₀) (sym (made_length (λ k. float_of (get_or gs (r + k) [])) m)) h)
 
-          all_room : r ≤ length lengths₀ → m ≤ length coordinates₀ → lists_refusal gs r lengths₀ coordinates₀ ≡ Granted
-          unfolding room_refusal
-          all_room h l =
-              room ∙ ap (λ (b : Bool). cond b (cond (leb m (length coordinates₀)) Granted (Short m)) (Short r)) (le-leb r (length lengths₀) h)
-              ∙ ap (λ (b : Bool). cond b Granted (Short m)) (le-leb m (length coordinates₀) l)
-
-          lengths_held : (lengths₁ : List ℕ) → r ≤ length lengths₀ → lengths₁ ≡ (taken is_count count_of gs r lengths₀).out → lengths₁ ≡ counts_of gs 0 r ++ drop (length (counts_of gs 0 r)) lengths₀
-          unfolding counts_of counts_step are_counts counts_test_step
-          lengths_held lengths₁ h q =
-              held_from is_count count_of gs 0 r lengths₀ (counts_of gs 0 r) lengths₁ refl q counts_yes
-              (subst (λ (n : ℕ). n ≤ length lengths₀) (sym (made_length (λ k. count_of (get_or gs (0 + k) [])) r)) h)
-
-          coordinates_held : (coordinates₁ : List Float) → m ≤ length coordinates₀ →
-              coordinates₁ ≡ (taken is_float float_of (drop r gs) m coordinates₀).out →
-              coordinates₁ ≡ floats_of gs r m ++ drop (length (floats_of gs r m)) coordinates₀
-          unfolding floats_of floats_step are_floats floats_test_step
-          coordinates_held coordinates₁ h q =
-              held_from is_float float_of gs r m coordinates₀ (floats_of gs r m) coordinates₁ refl q floats_yes
-              (subst (λ (n : ℕ). n ≤ length coordinates₀) (sym (made_length (λ k. float_of (get_or gs (r + k) [])) m)) h)
-
-          pub all_read : r ≤ length lengths₀ → count ≤ length coordinates₀ →
-              (lengths₁ : List ℕ) (coordinates₁ : List Float) (s₁ : Bool) (n₁ : ℕ) →
-              WalkedAt is_count count_of line start r lengths₀ lengths₁ s₁ n₁
-              → (s₂ : Bool) (n₂ : ℕ) → AllAt is_float float_of line next coordinates₀ coordinates₁ s₂ n₂ → ListsRead gs r lengths₀ lengths₁ coordinates₀ coordinates₁ Granted count
-          unfolding front_written
-          all_read h l lengths₁ coordinates₁ s₁ n₁ w₁ s₂ n₂ a₂ =
-              let l' : m ≤ length coordinates₀ = subst (λ (n : ℕ). n ≤ length coordinates₀) number l in
-              let yes : granted (lists_refusal gs r lengths₀ coordinates₀) ≡ true = ap granted (all_room h l') ∙ granted_yes in
-              record {
-                refusal_is = sym (all_room h l');
-                count_is = number ∙ ap (λ (b : Bool). cond b m 0) (sym yes);
-                lengths_are = lengths_held lengths₁ h w₁.after_is ∙ ap (λ (b : Bool). cond b (counts_of gs 0 r ++ drop (length (counts_of gs 0 r)) lengths₀) lengths₀) (sym yes);
-                coordinates_are =
-                    coordinates_held coordinates₁ l' (a₂.after_is ∙ ap (λ (x : Taken Float). x.out) (floats_taken next coordinates₀ (w.rest s)))
-                    ∙ ap (λ (b : Bool). cond b (floats_of gs r m ++ drop (length (floats_of gs r m)) coordinates₀) coordinates₀) (sym yes);
-              }
+        pub all_read : r ≤ length lengths₀ → count ≤ length coordinates₀ →
+            (lengths₁ : List ℕ) (coordinates₁ : List Float) (n₁ : Option ℕ) →
+            WalkedAt is_count count_of line start r lengths₀ lengths₁ n₁
+            → (n₂ : Option ℕ) → AllAt is_float float_of line next coordinates₀ coordinates₁ n₂ → ListsRead gs r lengths₀ lengths₁ coordinates₀ coordinates₁ Granted count
+        unfolding front_written
+        all_read h l lengths₁ coordinates₁ n₁ w₁ n₂ a₂ =
+            let l' : m ≤ length coordinates₀ = subst (λ (n : ℕ). n ≤ length coordinates₀) number l in
+            let yes : granted (lists_refusal gs r lengths₀ coordinates₀) ≡ true = ap granted (all_room h l') ∙ granted_yes in
+            record {
+              refusal_is = sym (all_room h l');
+              count_is = number ∙ ap (λ (b : Bool). cond b m 0) (sym yes);
+              lengths_are = lengths_held lengths₁ h w₁.after_is ∙ ap (λ (b : Bool). cond b (counts_of gs 0 r ++ drop (length (counts_of gs 0 r)) lengths₀) lengths₀) (sym yes);
+              coordinates_are =
+                  coordinates_held coordinates₁ l' (a₂.after_is ∙ ap (λ (x : Taken Float). x.out) (floats_taken next coordinates₀ w.rest.1))
+                  ∙ ap (λ (b : Bool). cond b (floats_of gs r m ++ drop (length (floats_of gs r m)) coordinates₀) coordinates₀) (sym yes);
+            }

@@ -1,8 +1,8 @@
 -- The walk from field to field of a line, each read to lent memory. Assumes nothing.
-use Prim.Native.Nat.{ℕ, suc, ◌+◌, ◌-◌, ◌≤◌, ◌<◌, zero-le}
+use Prim.Native.Nat.{ℕ, suc, ◌+◌, ◌-◌, ◌≤◌, ◌<◌}
 use native.Mathlib.Nat.{add-zero, le_antisymm}
 use native.Mathlib.Omega.{arith}
-use mathlib.Core.Bool.{Bool, true, false, cond, false≢true}
+use mathlib.Core.Bool.{Bool, true, false, cond}
 use mathlib.Core.Path.{◌≡◌, refl, sym, ap, ◌∙◌}
 use mathlib.Core.List.{List, []}
 use lib.ListN.{get_or, set, length, drop, length-drop}
@@ -11,8 +11,10 @@ use Rattle.base.specs.Loop.{rounds}
 use Rattle.base.proofs.Laws.{no_round, goes_on, ends, stays_to}
 use Rattle.format.specs.Fields.{fields_from, field_end}
 use Rattle.format.proofs.FieldWalk.{field_walk, no_field, fields_gone}
+use Rattle.std.proofs.Common.{None, Some}
+use Rattle.format_fields.specs.declared.At.{At}
 use Rattle.format_fields.specs.Places.{field_at, ReadAt}
-use Rattle.format_fields.proofs.Laws.{value_read, rest_read}
+use Rattle.format_fields.proofs.Laws.{rest_read}
 use Rattle.format_job.specs.Reads.{Taken, take_number, taken, WalkedAt, AllAt}
 
 -- ---- a place where k fields are passed
@@ -65,30 +67,27 @@ module _ {A : Type 0} (test : List ℕ → Bool) (value_of : List ℕ → A) (fs
 abbrev pub WalkTo : {A : Type 0} → (List ℕ → Bool) → (List ℕ → A) → List ℕ → List (List ℕ) → List A → ℕ → ℕ → List A → Type 0
 WalkTo test value_of line fs before k at out = (going out ≡ rounds (take_number test value_of fs) k (going before)) × (fields_from line at ≡ drop k fs)
 
-module _ {A : Type 0} (test : List ℕ → Bool) (value_of : List ℕ → A) (none : A) (line : List ℕ) (fs : List (List ℕ)) (before : List A) where
+module _ {A : Type 0} (test : List ℕ → Bool) (value_of : List ℕ → A) (line : List ℕ) (fs : List (List ℕ)) (before : List A) where
   pub begins : (start : ℕ) → fields_from line start ≡ fs → WalkTo test value_of line fs before 0 start before
   begins start e = (sym (no_round (take_number test value_of fs) (going before)), e)
 
-  pub took : (k at : ℕ) (formed : Bool) (value : A) (next : ℕ) (out after : List A) → test [] ≡ false → ReadAt test value_of none line at formed value next
-      → formed ≡ true → after ≡ set out k value → WalkTo test value_of line fs before k at out → WalkTo test value_of line fs before (k + 1) next after
-  took k at formed value next out after e r t w (s, f) = (
+  pub took : (k at : ℕ) (x : At A) (out after : List A) → test [] ≡ false → ReadAt test value_of line at x
+      → after ≡ set out k x.value → WalkTo test value_of line fs before k at out → WalkTo test value_of line fs before (k + 1) x.next after
+  took k at x out after e r w (s, f) = (
     goes_on (take_number test value_of fs) (going before) (going out) (going after) k s
-        (taken_yes test value_of fs k value out after
-        (sym (ap test here) ∙ sym r.formed_is ∙ t)
-        (value_read test value_of none line at formed value next t r ∙ ap value_of here)
-        w),
-    fields_next line fs k at f next (rest_read test value_of none line at formed value next e t r),
+        (taken_yes test value_of fs k x.value out after (sym (ap test here) ∙ r.formed) (r.value_is ∙ ap value_of here) w),
+    fields_next line fs k at f x.next (rest_read test value_of line at x e r),
   )
     where
       here : field_at line at ≡ get_or fs k []
       here = field_here line fs k at f
 
-  pub stopped : (k n at : ℕ) (formed : Bool) (value : A) (next : ℕ) (out : List A) → k < n → ReadAt test value_of none line at formed value next
-      → formed ≡ false → WalkTo test value_of line fs before k at out → left out ≡ rounds (take_number test value_of fs) n (going before)
-  stopped k n at formed value next out l r t (s, f) =
+  pub stopped : (k n at : ℕ) (out : List A) → k < n → test (field_at line at) ≡ false
+      → WalkTo test value_of line fs before k at out → left out ≡ rounds (take_number test value_of fs) n (going before)
+  stopped k n at out l t (s, f) =
       sym (stays_to (take_number test value_of fs) (going before) (left out) (k + 1) n (one k l)
       (sym (goes_on (take_number test value_of fs) (going before) (going out) (left out) k s
-      (taken_no test value_of fs k out (sym (ap test (field_here line fs k at f)) ∙ sym r.formed_is ∙ t))))
+      (taken_no test value_of fs k out (sym (ap test (field_here line fs k at f)) ∙ t))))
       (λ (i : ℕ). taken_left test value_of fs i out))
     where
       one : (i : ℕ) → i < n → i + 1 ≤ n
@@ -96,52 +95,39 @@ module _ {A : Type 0} (test : List ℕ → Bool) (value_of : List ℕ → A) (no
 
 -- ---- what the walks hand back
 
-module _ {A : Type 0} (test : List ℕ → Bool) (value_of : List ℕ → A) (none : A) (line : List ℕ) (start : ℕ) (before : List A) where
+module _ {A : Type 0} (test : List ℕ → Bool) (value_of : List ℕ → A) (line : List ℕ) (start : ℕ) (before : List A) where
   pub walked : (k n at : ℕ) (out : List A) → k ≤ n → n ≤ k → WalkTo test value_of line (fields_from line start) before k at out
-      → WalkedAt test value_of line start n before out true at
+      → WalkedAt test value_of line start n before out (Some at)
   unfolding taken
   walked k n at out l m (s, f) =
       let e = ends (take_number test value_of (fields_from line start)) (going before) (going out) k n l m s in
       record {
-        sound_is = ap (λ (t : Taken A). t.sound) e;
         after_is = ap (λ (t : Taken A). t.out) e;
-        rest = λ _. f ∙ ap (λ (i : ℕ). drop i (fields_from line start)) (le_antisymm l m);
+        rest = (sym (ap (λ (t : Taken A). t.sound) e), f ∙ ap (λ (i : ℕ). drop i (fields_from line start)) (le_antisymm l m));
       }
 
-  pub not_walked : (k n at : ℕ) (formed : Bool) (value : A) (next last : ℕ) (out : List A) → k < n → ReadAt test value_of none line at formed value next → formed ≡ false
-      → WalkTo test value_of line (fields_from line start) before k at out → WalkedAt test value_of line start n before out false last
+  pub not_walked : (k n at : ℕ) (out : List A) → k < n → test (field_at line at) ≡ false
+      → WalkTo test value_of line (fields_from line start) before k at out → WalkedAt test value_of line start n before out None
   unfolding taken
-  not_walked k n at formed value next last out l r t w =
-      let e = stopped test value_of none line (fields_from line start) before k n at formed value next out l r t w in
-      record {
-        sound_is = ap (λ (t : Taken A). t.sound) e;
-        after_is = ap (λ (t : Taken A). t.out) e;
-        rest = λ (f : false ≡ true). absurd (false≢true f);
-      }
+  not_walked k n at out l t w =
+      let e = stopped test value_of line (fields_from line start) before k n at out l t w in
+      record { after_is = ap (λ (t : Taken A). t.out) e; rest = sym (ap (λ (t : Taken A). t.sound) e) }
 
   pub all_walked : (k at : ℕ) (out : List A) → k ≤ length (fields_from line start) → length line < at → WalkTo test value_of line (fields_from line start) before k at out
-      → AllAt test value_of line start before out true k
+      → AllAt test value_of line start before out (Some k)
   unfolding taken
   all_walked k at out l m (s, f) =
       let g = none_left line (fields_from line start) k at f m in
       let e = ends (take_number test value_of (fields_from line start)) (going before) (going out) k (length (fields_from line start)) l g s in
-      record {
-        sound_is = ap (λ (t : Taken A). t.sound) e;
-        after_is = ap (λ (t : Taken A). t.out) e;
-        count_is = λ _. le_antisymm l g;
-      }
+      record { after_is = ap (λ (t : Taken A). t.out) e; count = (sym (ap (λ (t : Taken A). t.sound) e), le_antisymm l g) }
 
-  pub not_all : (k at : ℕ) (formed : Bool) (value : A) (next count : ℕ) (out : List A) → at ≤ length line → ReadAt test value_of none line at formed value next → formed ≡ false
-      → WalkTo test value_of line (fields_from line start) before k at out → AllAt test value_of line start before out false count
+  pub not_all : (k at : ℕ) (out : List A) → at ≤ length line → test (field_at line at) ≡ false
+      → WalkTo test value_of line (fields_from line start) before k at out → AllAt test value_of line start before out None
   unfolding taken
-  not_all k at formed value next count out h r t w =
+  not_all k at out h t w =
       let l = some_left line (fields_from line start) k at w.1 h in
-      let e = stopped test value_of none line (fields_from line start) before k (length (fields_from line start)) at formed value next out l r t w in
-      record {
-        sound_is = ap (λ (t : Taken A). t.sound) e;
-        after_is = ap (λ (t : Taken A). t.out) e;
-        count_is = λ (f : false ≡ true). absurd (false≢true f);
-      }
+      let e = stopped test value_of line (fields_from line start) before k (length (fields_from line start)) at out l t w in
+      record { after_is = ap (λ (t : Taken A). t.out) e; count = sym (ap (λ (t : Taken A). t.sound) e) }
 
 -- the counter and the place, a field further
 pub behind : (k at next : ℕ) → k ≤ at → at < next → k + 1 ≤ next
@@ -153,8 +139,3 @@ falls n at next h l = omega arith
 -- a number that has no room is left out
 pub no_room : {A : Type 0} (out : List A) (k : ℕ) (x : A) → length out ≤ k → out ≡ set out k x
 no_room out k x h = sym (set_out out k x h)
-
--- a walk that only looks: a store to no memory at all is left out
-pub passed : {A : Type 0} (test : List ℕ → Bool) (value_of : List ℕ → A) (none : A) (line : List ℕ) (fs : List (List ℕ)) (k at : ℕ) (formed : Bool) (value : A) (next : ℕ)
-    → test [] ≡ false → ReadAt test value_of none line at formed value next → formed ≡ true → WalkTo test value_of line fs [] k at [] → WalkTo test value_of line fs [] (k + 1) next []
-passed test value_of none line fs k at formed value next e r t w = took test value_of none line fs [] k at formed value next [] [] e r t (no_room [] k value zero-le) w

@@ -1,6 +1,6 @@
 -- Reading a job line, and the lent memory afterwards: 22, then 20 of the vertex counts, then 20 of the coordinates.
 -- A refused read changes neither. Assumes nothing.
-use Rattle.std.specs.Prelude.{ℕ, ◌-◌, ◌≤◌, Bool, true, false, cond, ◌&&◌, ◌≡◌, List, [], ◌++◌, leb, get_or, set, length, drop, Float}
+use Rattle.std.specs.Prelude.{ℕ, ◌-◌, ◌≤◌, Bool, true, false, cond, ◌&&◌, ◌≡◌, List, [], ◌++◌, leb, get_or, set, length, drop, Float, Option, MatchOption}
 use Rattle.error.specs.declared.Refusal.{Refusal}
 use Rattle.error.specs.declared.Refusal.TheVariants.{Granted, Short, Job}
 use Rattle.base.specs.Loop.{rounds}
@@ -14,6 +14,7 @@ use Rattle.format.specs.Lines.{are_counts, counts_of, are_floats, floats_of}
 use Rattle.format.specs.JobLines.{outset_word, side_field, distance_field, rings_field, head_formed}
 use Rattle.format.specs.Lines.{same_bytes, longest_line}
 use Rattle.format_job.specs.declared.Parsed.{Parsed}
+use Rattle.format_job.specs.declared.head.Head.{Head}
 
 -- ---- what reading a line answers
 
@@ -71,19 +72,25 @@ take_number test value_of fs k s =
 unfoldable pub taken : {A : Type 0} → (List ℕ → Bool) → (List ℕ → A) → List (List ℕ) → ℕ → List A → Taken A
 taken test value_of fs n out = rounds (take_number test value_of fs) n (record { sound = true; out = out })
 
--- n fields from a place on, read to memory: as defined, and then where the next field starts. A walk that only looks has no memory.
+-- n fields from a place on, read to memory: as defined, and where the field after them starts; None where one of them is no number. A walk
+-- that only looks has no memory.
 pub record WalkedAt {A : Type 0} (test : List ℕ → Bool) (value_of : List ℕ → A) (line : List ℕ) (start n : ℕ)
-    (before after : List A) (sound : Bool) (next : ℕ) : Type 0 where
-  pub sound_is : sound ≡ (taken test value_of (fields_from line start) n before).sound
+    (before after : List A) (result : Option ℕ) : Type 0 where
   pub after_is : after ≡ (taken test value_of (fields_from line start) n before).out
-  pub rest : sound ≡ true → fields_from line next ≡ drop n (fields_from line start)
+  pub rest : MatchOption result ((taken test value_of (fields_from line start) n before).sound ≡ false)
+      (λ next. (taken test value_of (fields_from line start) n before).sound ≡ true
+      × fields_from line next ≡ drop n (fields_from line start))
 
--- every field from a place on: as defined, and then how many there are
+-- every field from a place on, taken so
+abbrev pub all_taken : {A : Type 0} → (List ℕ → Bool) → (List ℕ → A) → List ℕ → ℕ → List A → Taken A
+all_taken test value_of line start out = taken test value_of (fields_from line start) (length (fields_from line start)) out
+
+-- as defined, and how many there are; None where one of them is no number
 pub record AllAt {A : Type 0} (test : List ℕ → Bool) (value_of : List ℕ → A) (line : List ℕ) (start : ℕ)
-    (before after : List A) (sound : Bool) (count : ℕ) : Type 0 where
-  pub sound_is : sound ≡ (taken test value_of (fields_from line start) (length (fields_from line start)) before).sound
-  pub after_is : after ≡ (taken test value_of (fields_from line start) (length (fields_from line start)) before).out
-  pub count_is : sound ≡ true → count ≡ length (fields_from line start)
+    (before after : List A) (result : Option ℕ) : Type 0 where
+  pub after_is : after ≡ (all_taken test value_of line start before).out
+  pub count : MatchOption result ((all_taken test value_of line start before).sound ≡ false)
+      (λ count. (all_taken test value_of line start before).sound ≡ true × count ≡ length (fields_from line start))
 
 -- ---- the lists of a line: the fields after its ring count
 
@@ -116,12 +123,13 @@ ring_number line = count_of (rings_field (fields line))
 unfoldable pub head_fits : List ℕ → Bool
 head_fits line = leb (length line) longest_line && (head_formed (fields line) && side_fits (is_outward line) (ring_number line))
 
-pub record HeadOf (line : List ℕ) (formed outward : Bool) (distance : Float) (rings next : ℕ) : Type 0 where
-  pub formed_is : formed ≡ head_fits line
-  pub outward_is : formed ≡ true → outward ≡ is_outward line
-  pub distance_is : formed ≡ true → distance ≡ float_of (distance_field (fields line))
-  pub rings_is : formed ≡ true → rings ≡ ring_number line
-  pub rest : formed ≡ true → fields_from line next ≡ drop 3 (fields line)
+-- a head that passes it
+pub record HeadOf (line : List ℕ) (h : Head) : Type 0 where
+  pub fits : head_fits line ≡ true
+  pub outward_is : h.outward ≡ is_outward line
+  pub distance_is : h.distance ≡ float_of (distance_field (fields line))
+  pub rings_is : h.rings ≡ ring_number line
+  pub rest : fields_from line h.next ≡ drop 3 (fields line)
 
 -- ---- what is to hold
 

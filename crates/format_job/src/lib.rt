@@ -24,7 +24,7 @@ fn refused(refusal: Refusal) -> Parsed
     ensures { result ≡ Reads.unparsed refusal }
 {
     Parsed {
-        refusal: refusal,
+        refusal,
         outward: false,
         distance: 0.0,
         rings: 0,
@@ -34,25 +34,24 @@ fn refused(refusal: Refusal) -> Parsed
 
 // A line, without its LF: 22, then 20 of the vertex counts, then 20 of the coordinates. They stand at the front of the lent memory,
 // and a refused read changes nothing. 999 and 962 numbers are room for every line.
-pub fn parse_job<'a>(line: &'a [u8], lengths: &'a mut [usize], coordinates: &'a mut [f64]) -> Parsed
+pub fn parse_job(line: &[u8], lengths: &mut [usize], coordinates: &mut [f64]) -> Parsed
     ensures answered { result ≡ Reads.parse_answered line.now lengths.old coordinates.old }
     ensures counted { lengths.new ≡ Reads.lengths_written line.now lengths.old coordinates.old }
     ensures numbered { coordinates.new ≡ Reads.coordinates_written line.now lengths.old coordinates.old }
 {
-    let head = head::head_of(line);
-    if head.formed {
-        let found = lists::read_lists(line, head.next, head.rings, lengths, coordinates);
-        let refusal = found.refusal;
-        if refusal.granted() {
-            return Parsed {
-                refusal: Refusal::Granted,
-                outward: head.outward,
-                distance: head.distance,
-                rings: head.rings,
-                count: found.count,
-            };
-        }
+    let Some(head) = head::head_of(line) else {
+        return refused(Refusal::Job);
+    };
+    let found = lists::read_lists(line, head.next, head.rings, lengths, coordinates);
+    let refusal = found.refusal;
+    if !refusal.granted() {
         return refused(refusal);
     }
-    refused(Refusal::Job)
+    Parsed {
+        refusal: Refusal::Granted,
+        outward: head.outward,
+        distance: head.distance,
+        rings: head.rings,
+        count: found.count,
+    }
 }

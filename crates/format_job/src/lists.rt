@@ -1,4 +1,5 @@
 // The lists of a line, from its first vertex count on: looked through first, and stored only where all of it is well formed and has room.
+ghost use Rattle.std.specs.Prelude.{◌≡◌};
 ghost use Rattle.format.specs.Fields.{fields_from};
 ghost use Rattle.format_job.specs.Reads.{ListsRead};
 
@@ -12,46 +13,39 @@ pub(crate) struct Lists {
     pub count: usize,
 }
 
-pub(crate) fn read_lists<'a>(
-    line: &'a [u8],
+fn refused(refusal: Refusal) -> Lists
+    ensures refusal { result.refusal ≡ refusal }
+    ensures count { result.count ≡ 0 }
+{
+    Lists { refusal, count: 0 }
+}
+
+pub(crate) fn read_lists(
+    line: &[u8],
     start: usize,
     rings: usize,
-    lengths: &'a mut [usize],
-    coordinates: &'a mut [f64],
+    lengths: &mut [usize],
+    coordinates: &mut [f64],
 ) -> Lists
     ensures { ListsRead (fields_from line.now start) rings
         lengths.old lengths.new coordinates.old coordinates.new result.refusal result.count }
 {
-    let found = walk::check_counts(line, start, rings);
-    if found.sound {
-        let rest = walk::check_floats(line, found.next);
-        if rest.sound {
-            if rings <= lengths.len() {
-                if rest.count <= coordinates.len() {
-                    walk::read_counts(line, start, rings, lengths);
-                    walk::read_floats(line, found.next, coordinates);
-                    return Lists {
-                        refusal: Refusal::Granted,
-                        count: rest.count,
-                    };
-                }
-                return Lists {
-                    refusal: Refusal::Short(rest.count),
-                    count: 0,
-                };
-            }
-            return Lists {
-                refusal: Refusal::Short(rings),
-                count: 0,
-            };
-        }
-        return Lists {
-            refusal: Refusal::Job,
-            count: 0,
-        };
+    let Some(next) = walk::read_counts(line, start, rings, &mut []) else {
+        return refused(Refusal::Job);
+    };
+    let Some(count) = walk::read_floats(line, next, &mut []) else {
+        return refused(Refusal::Job);
+    };
+    if lengths.len() < rings {
+        return refused(Refusal::Short(rings));
     }
+    if coordinates.len() < count {
+        return refused(Refusal::Short(count));
+    }
+    walk::read_counts(line, start, rings, lengths);
+    walk::read_floats(line, next, coordinates);
     Lists {
-        refusal: Refusal::Job,
-        count: 0,
+        refusal: Refusal::Granted,
+        count,
     }
 }

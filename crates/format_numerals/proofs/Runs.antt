@@ -14,7 +14,7 @@ use borrow.Author.Tests.{leb-true}
 use Rattle.base.specs.Loop.{rounds}
 use Rattle.base.proofs.Laws.{goes_on}
 use Rattle.format.specs.Numerals.{is_decimal, is_hex, decimal_value, hex_value}
-use Rattle.format_numerals.specs.Readings.{hex_part, decimal_part, RunTo}
+use Rattle.format_numerals.specs.Readings.{hex_part, decimal_part, all_pass, number_of}
 
 -- ---- one digit
 
@@ -67,6 +67,12 @@ hex_small b = mod-lt (b % 16 + b / 64 * 9) (lit< tt)
 
 -- ---- one digit more
 
+-- The first k digits of a field, in a base up to 16: whether each of them passes the test, and then the number that they are
+pub record RunTo (base : ℕ) (test : ℕ → Bool) (value_of : ℕ → ℕ) (field : List ℕ) (k : ℕ) (sound : Bool) (value : ℕ) : Type 0 where
+  pub sound_is : sound ≡ all_pass test field k
+  pub value_is : sound ≡ true → value ≡ number_of base value_of field k
+  pub small : value < 16 ^ k
+
 -- a number of at most k digits, with one more
 wider : (base k value d : ℕ) → base ≤ 16 → d < 16 → value < 16 ^ k → value * base + d < 16 ^ k * 16
 wider base k value d b l h = lt_of_le_of_lt (add-le-add (mul-le-mul_left value b) (le_refl d)) (digits_lt h l)
@@ -91,5 +97,9 @@ module _ (base : ℕ) (test : ℕ → Bool) (value_of : ℕ → ℕ) (field : Li
         small = subst (λ (x : ℕ). value * base + d < x) (sym (ap (λ (i : ℕ). 16 ^ i) (add-one k) ∙ pow-suc 16 k)) (wider base k value d b l h.small);
       }
 
-  pub whole : (k n : ℕ) (sound : Bool) (value : ℕ) → k ≤ n → n ≤ k → RunTo base test value_of field k sound value → RunTo base test value_of field n sound value
-  whole k n sound value l m h = subst (λ (i : ℕ). RunTo base test value_of field i sound value) (le_antisymm l m) h
+  pub passed : (k n value : ℕ) → k ≤ n → n ≤ k → RunTo base test value_of field k true value
+      → all_pass test field n ≡ true × value ≡ number_of base value_of field n
+  passed k n value l m h = subst (λ (i : ℕ). all_pass test field i ≡ true × value ≡ number_of base value_of field i) (le_antisymm l m) (sym h.sound_is, h.value_is refl)
+
+  pub failed : (k n value : ℕ) → k ≤ n → n ≤ k → RunTo base test value_of field k false value → all_pass test field n ≡ false
+  failed k n value l m h = subst (λ (i : ℕ). all_pass test field i ≡ false) (le_antisymm l m) (sym h.sound_is)

@@ -1,50 +1,66 @@
 // The numbers of a job line: 16 hexadecimal digits as a float, 1 to 3 decimal digits as a count.
 #![tactic(auto)]
 
-ghost use Rattle.std.specs.Prelude.{◌≡◌, ◌≤◌, length};
+ghost use Rattle.std.specs.Prelude.{◌≡◌, ◌≤◌, false, Bool, List, [], ℕ, length, MatchOption};
 ghost use Rattle.std.specs.Float.{binary64};
 ghost use Rattle.std.specs.Float.Ieee.{of_bits};
 ghost use Rattle.format.specs.Numerals;
-ghost use Rattle.format.specs.Numerals.{hex_value, decimal_value, is_float, is_count};
+ghost use Rattle.format.specs.Numerals.{hex_value, decimal_value, is_float, bits_of, float_of, is_count, count_of};
 ghost use Rattle.format_numerals.specs.Readings;
-ghost use Rattle.format_numerals.specs.Readings.{RunTo};
+ghost use Rattle.format_numerals.specs.Readings.{Run, FieldValue};
 
-// A field as a float: whether it is well formed, and its value; 0 where it is not.
-#[derive(Clone, Copy)]
-pub struct FloatField {
-    pub formed: bool,
-    pub value: f64,
+// What a field of a job line can be read as: a count or a float.
+pub trait Number: Copy {
+    ghost formed: { List ℕ → Bool };
+
+    ghost value_of: { List ℕ → Self };
+
+    // None of a field that is not well formed.
+    fn read(field: &[u8]) -> Option<Self>
+        ensures { MatchOption result (formed field.now ≡ false) (FieldValue formed value_of field.now) };
+
+    ghost empty: { formed [] ≡ false };
 }
 
-// A field as a count: whether it is well formed, and its value; 0 where it is not.
-#[derive(Clone, Copy)]
-pub struct CountField {
-    pub formed: bool,
-    pub value: usize,
+impl Number for f64 {
+    ghost formed = { is_float };
+
+    ghost value_of = { float_of };
+
+    fn read(field: &[u8]) -> Option<f64> {
+        float_field(field)
+    }
+
+    ghost empty = { Readings.no_float };
 }
 
-// Digits as a number: whether each is one, and then their value.
-#[derive(Clone, Copy)]
-pub(crate) struct Run {
-    pub sound: bool,
-    pub value: usize,
+impl Number for usize {
+    ghost formed = { is_count };
+
+    ghost value_of = { count_of };
+
+    fn read(field: &[u8]) -> Option<usize> {
+        count_field(field)
+    }
+
+    ghost empty = { Readings.no_count };
 }
 
-pub fn is_hex(b: u8) -> bool
+pub(crate) fn is_hex(b: u8) -> bool
     ensures { result ≡ Numerals.is_hex b }
 {
-    ((48 <= b) & (b <= 57)) | ((97 <= b) & (b <= 102))
+    ((b'0' <= b) & (b <= b'9')) | ((b'a' <= b) & (b <= b'f'))
 }
 
 pub(crate) fn is_decimal(b: u8) -> bool
     ensures { result ≡ Numerals.is_decimal b }
 {
-    (48 <= b) & (b <= 57)
+    (b'0' <= b) & (b <= b'9')
 }
 
 // The value of a hexadecimal digit, without a branch on its kind: the last four bits, and 9 more for a letter. Of any other byte some
 // number below 16.
-pub fn hex_part(b: u8) -> usize
+pub(crate) fn hex_part(b: u8) -> usize
     ensures { result ≡ Readings.hex_part b }
 {
     let n = b as usize;
@@ -58,40 +74,31 @@ pub(crate) fn decimal_part(b: u8) -> usize
     b as usize % 16
 }
 
-pub(crate) fn hex_run(field: &[u8]) -> Run
+// Stays: no plainer, since one function for both bases would take the base, the test and the value of a digit, and laws of the two.
+pub(crate) fn hex_run(field: &[u8]) -> Option<usize>
     requires { length field.now ≡ 16 }
-    ensures { RunTo 16 Numerals.is_hex hex_value field.now 16 result.sound result.value }
+    ensures { Run 16 Numerals.is_hex hex_value field.now 16 result }
 {
     let mut sound = true;
     let mut value = 0usize;
-    let mut k = 0usize;
-    while k < 16 {
+    for k in 0..16 {
         sound = sound & is_hex(field[k]);
         value = value * 16 + hex_part(field[k]);
-        k += 1;
     }
-    Run {
-        sound: sound,
-        value: value,
-    }
+    if sound { Some(value) } else { None }
 }
 
-pub(crate) fn decimal_run(field: &[u8]) -> Run
+pub(crate) fn decimal_run(field: &[u8]) -> Option<usize>
     requires { length field.now ≤ 3 }
-    ensures { RunTo 10 Numerals.is_decimal decimal_value field.now (length field.now) result.sound result.value }
+    ensures { Run 10 Numerals.is_decimal decimal_value field.now (length field.now) result }
 {
     let mut sound = true;
     let mut value = 0usize;
-    let mut k = 0usize;
-    while k < field.len() {
-        sound = sound & is_decimal(field[k]);
-        value = value * 10 + decimal_part(field[k]);
-        k += 1;
+    for b in field {
+        sound = sound & is_decimal(*b);
+        value = value * 10 + decimal_part(*b);
     }
-    Run {
-        sound: sound,
-        value: value,
-    }
+    if sound { Some(value) } else { None }
 }
 
 // The float of a pattern; each pattern of a NaN is the one NaN.
@@ -104,51 +111,36 @@ pub fn float_of(bits: u64) -> f64
     f64::from_bits(bits)
 }
 
-pub fn float_field(field: &[u8]) -> FloatField
-    ensures formed { result.formed ≡ is_float field.now }
-    ensures value { result.value ≡ Readings.float_or field.now }
+// The pattern that 16 digits are.
+pub fn hex_field(field: &[u8]) -> Option<u64>
+    ensures { MatchOption result (is_float field.now ≡ false) (FieldValue is_float bits_of field.now) }
 {
-    if field.len() == 16 {
-        let run = hex_run(field);
-        if run.sound {
-            return FloatField {
-                formed: true,
-                value: float_of(run.value as u64),
-            };
-        }
-        return FloatField {
-            formed: false,
-            value: 0.0,
-        };
+    if field.len() != 16 {
+        return None;
     }
-    FloatField {
-        formed: false,
-        value: 0.0,
-    }
+    let bits = hex_run(field)?;
+    Some(bits as u64)
 }
 
-pub fn count_field(field: &[u8]) -> CountField
-    ensures formed { result.formed ≡ is_count field.now }
-    ensures value { result.value ≡ Readings.count_or field.now }
+pub(crate) fn float_field(field: &[u8]) -> Option<f64>
+    ensures { MatchOption result (is_float field.now ≡ false) (FieldValue is_float float_of field.now) }
+{
+    let bits = hex_field(field)?;
+    Some(float_of(bits))
+}
+
+pub(crate) fn count_field(field: &[u8]) -> Option<usize>
+    ensures { MatchOption result (is_count field.now ≡ false) (FieldValue is_count count_of field.now) }
 {
     let n = field.len();
     if n == 0 {
-        return CountField {
-            formed: false,
-            value: 0,
-        };
+        return None;
     }
     if 3 < n {
-        return CountField {
-            formed: false,
-            value: 0,
-        };
+        return None;
     }
-    let led = (n == 1) | (field[0] != 48);
-    let run = decimal_run(field);
-    let formed = led & run.sound;
-    CountField {
-        formed: formed,
-        value: base::choose(formed, run.value, 0),
+    if (n != 1) & (field[0] == b'0') {
+        return None;
     }
+    decimal_run(field)
 }

@@ -1,18 +1,14 @@
 -- offset.rs, `Edge` and `Front`: a list of 128 edges, linked into rings. A slot that was never taken holds the unused edge, which is not
 -- alive. A link that leads out of the list reads the unused edge, and none does. Assumes nothing.
-use Rattle.std.specs.Prelude.{ℕ, ◌+◌, Bool, true, false, cond, List, ltb, eqb, get_or, set, Float}
+use Rattle.std.specs.Prelude.{ℕ, ◌+◌, Bool, true, false, cond, List, ltb, eqb, get_or, set, Float, Option, Some, None}
 use Rattle.std.specs.Float.{nan}
 use Rattle.front.specs.declared.Edge.{Edge}
 use Rattle.front.specs.declared.Line.{Line}
 use Rattle.plane.specs.declared.PlanarPoint.{PlanarPoint}
 use Rattle.front.specs.declared.Round.{Round}
-use Rattle.front.specs.declared.Place.{Place}
-use Rattle.front.specs.declared.Place.TheVariants.{Nowhere, There}
-use Rattle.front.specs.declared.Vertex.{Vertex}
-use Rattle.front.specs.declared.Vertex.TheVariants.{NoVertex, Moving}
+use Rattle.front.specs.declared.Moving.{Moving}
 use Rattle.front.specs.declared.Front.{Front}
 use Rattle.front.specs.declared.Length.{Length}
-use Rattle.front.specs.declared.Length.TheVariants.{NoLength, Long}
 use Rattle.math.specs.Number
 use Rattle.math.specs.Number.{zero_float, one, add, mul}
 use Rattle.base.specs.Loop.{rounds}
@@ -109,14 +105,14 @@ ring_len f slot = (rounds (round_step f slot) 128 (record { at = slot; count = 0
 unfoldable pub moved_by : PlanarPoint → PlanarPoint → Float → PlanarPoint
 moved_by p v elapsed = record { east = add p.east (mul elapsed v.east); north = add p.north (mul elapsed v.north) }
 
-unfoldable pub vertex_by : Edge → Float → Place → Vertex
-vertex_by e t Nowhere = NoVertex
-vertex_by e t (There v) = Moving (moved_by e.start v (Number.sub t e.since)) v
+unfoldable pub vertex_by : Edge → Float → Option PlanarPoint → Option Moving
+vertex_by e t None = None
+vertex_by e t (Some v) = Some (record { at = moved_by e.start v (Number.sub t e.since); velocity = v })
 
-unfoldable pub vertex_of : List Edge → Edge → Float → Vertex
+unfoldable pub vertex_of : List Edge → Edge → Float → Option Moving
 vertex_of f e t = vertex_by e t (velocity (edge_line (edge f e.previous)) (edge_line e))
 
-unfoldable pub vertex : List Edge → ℕ → Float → Vertex
+unfoldable pub vertex : List Edge → ℕ → Float → Option Moving
 vertex f slot t = vertex_of f (edge f slot) t
 
 -- ---- `Front::anchor` and `Front::collapse`
@@ -129,9 +125,9 @@ unfoldable pub stalled : List Edge → Front
 stalled f = record { edges = f; stalled = true; changed = true }
 
 -- `Front::anchor`: the start vertex of an edge is recorded as of offset t
-unfoldable pub anchor_at : List Edge → ℕ → Float → Vertex → Front
-anchor_at f slot t NoVertex = stalled f
-anchor_at f slot t (Moving p v) = altered (set_start f slot p t)
+unfoldable pub anchor_at : List Edge → ℕ → Float → Option Moving → Front
+anchor_at f slot t None = stalled f
+anchor_at f slot t (Some m) = altered (set_start f slot m.at t)
 
 unfoldable pub anchor : List Edge → ℕ → Float → Front
 anchor f slot t = anchor_at f slot t (vertex f slot t)
@@ -146,15 +142,20 @@ collapse f slot t = then_remove slot (anchor f (edge f slot).next t)
 
 -- ---- `Front::length`: an edge's length at offset t, and its rate of change
 
-unfoldable pub length_to : Edge → PlanarPoint → PlanarPoint → Vertex → Length
-length_to e p v NoVertex = NoLength
-length_to e p v (Moving q w) = Long (dot (direction (edge_line e)) (sub q p)) (dot (direction (edge_line e)) (sub w v))
+unfoldable pub length_to : Edge → Moving → Option Moving → Option Length
+length_to e from None = None
+length_to e from (Some to) =
+    Some
+    (record {
+      value = dot (direction (edge_line e)) (sub to.at from.at);
+      rate = dot (direction (edge_line e)) (sub to.velocity from.velocity);
+    })
 
-unfoldable pub length_from : List Edge → Edge → Float → Vertex → Length
-length_from f e t NoVertex = NoLength
-length_from f e t (Moving p v) = length_to e p v (vertex f e.next t)
+unfoldable pub length_from : List Edge → Edge → Float → Option Moving → Option Length
+length_from f e t None = None
+length_from f e t (Some from) = length_to e from (vertex f e.next t)
 
-unfoldable pub edge_length : List Edge → ℕ → Float → Length
+unfoldable pub edge_length : List Edge → ℕ → Float → Option Length
 edge_length f slot t = length_from f (edge f slot) t (vertex f slot t)
 
 -- opens every definition above, for a proof that computes with all of them

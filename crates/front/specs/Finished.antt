@@ -1,10 +1,9 @@
 -- offset.rs, `Finished::for_each_ring`: the rings of a front that has come to the distance, in plane coordinates. Assumes nothing.
-use Rattle.std.specs.Prelude.{ℕ, ◌+◌, Bool, true, false, cond, not, ◌&&◌, ◌||◌, List, eqb, get_or, set, replicate, Float}
+use Rattle.std.specs.Prelude.{ℕ, ◌+◌, Bool, true, false, cond, not, ◌&&◌, ◌||◌, List, eqb, get_or, set, replicate, Float, Option, Some, None}
 use Rattle.plane.specs.declared.PlanarPoint.{PlanarPoint}
 use Rattle.error.specs.declared.Refusal.{Refusal}
 use Rattle.front.specs.declared.Edge.{Edge}
-use Rattle.front.specs.declared.Vertex.{Vertex}
-use Rattle.front.specs.declared.Vertex.TheVariants.{NoVertex, Moving}
+use Rattle.front.specs.declared.Moving.{Moving}
 use Rattle.front.specs.declared.Walk.{Walk}
 use Rattle.error.specs.Refusals.{granted}
 use Rattle.base.specs.Loop.{rounds}
@@ -30,10 +29,10 @@ walk_on first next p w =
     })
     (walk_lost w)
 
-unfoldable pub walk_vertex : ℕ → ℕ → PlanarPoint → Walk → Vertex → Walk
-walk_vertex first next origin w NoVertex = walk_lost w
-walk_vertex first next origin w (Moving p v) =
-    walk_on first next (record { east = add p.east origin.east; north = add p.north origin.north }) w
+unfoldable pub walk_vertex : ℕ → ℕ → PlanarPoint → Walk → Option Moving → Walk
+walk_vertex first next origin w None = walk_lost w
+walk_vertex first next origin w (Some m) =
+    walk_on first next (record { east = add m.at.east origin.east; north = add m.at.north origin.north }) w
 
 unfoldable pub walk_step : List Edge → Float → PlanarPoint → ℕ → ℕ → Walk → Walk
 walk_step f t origin first k w =

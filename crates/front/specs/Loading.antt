@@ -1,13 +1,11 @@
 -- offset.rs, `offset_rings`, its first loop: the rings of a shape are loaded into the front, edge by edge. Assumes nothing.
-use Rattle.std.specs.Prelude.{ℕ, suc, ◌+◌, ◌-◌, Bool, true, cond, ◌≡◌, List, ltb, eqb, set, replicate, Float}
+use Rattle.std.specs.Prelude.{ℕ, suc, ◌+◌, ◌-◌, Bool, true, cond, ◌≡◌, List, ltb, eqb, set, replicate, Float, Option, Some, None}
 use Rattle.front.specs.declared.Edge.{Edge}
 use Rattle.front.specs.declared.Loaded.{Loaded}
 use Rattle.error.specs.declared.Refusal.TheVariants.{Granted, Slots, Collapses}
 use Rattle.error.specs.declared.Refusal.{Refusal}
 use Rattle.plane.specs.declared.PlanarPoint.{PlanarPoint}
 use Rattle.front.specs.declared.Line.{Line}
-use Rattle.front.specs.declared.Through.{Through}
-use Rattle.front.specs.declared.Through.TheVariants.{NoLine, Along}
 use Rattle.front.specs.Edges.{unused}
 use Rattle.plane.specs.Plane.{sub}
 use Rattle.ring.specs.Ring.{vertex_at, following}
@@ -49,9 +47,9 @@ unfoldable pub has_room : Loaded → Bool
 has_room s = ltb s.used 128
 
 -- edge by edge, a zero length (16) is asked before the room for that edge (15), which names 128 plus the edges of that ring still to load
-unfoldable pub load_line : Float → ℕ → ℕ → ℕ → PlanarPoint → Loaded → Through → Loaded
-load_line d first n k a s NoLine = load_refused s (Collapses d)
-load_line d first n k a s (Along l) =
+unfoldable pub load_line : Float → ℕ → ℕ → ℕ → PlanarPoint → Loaded → Option Line → Loaded
+load_line d first n k a s None = load_refused s (Collapses d)
+load_line d first n k a s (Some l) =
     cond (has_room s)
     (record { edges = set s.edges s.used (loaded_edge l first n k a); used = s.used + 1; rings = s.rings; refusal = Granted })
     (load_refused s (Slots (s.used + (n - k))))

@@ -1,17 +1,13 @@
 -- offset.rs, `Front::next_event`: the soonest collapse and the soonest split. Assumes nothing.
-use Rattle.std.specs.Prelude.{ℕ, Bool, true, false, cond, not, ◌&&◌, ◌||◌, List, eqb, Float}
+use Rattle.std.specs.Prelude.{ℕ, Bool, true, false, cond, not, ◌&&◌, ◌||◌, List, eqb, Float, Option, Some, None}
 use Rattle.std.specs.Float.Ieee.{lt, le, neg}
 use Rattle.front.specs.declared.EventSearch.{EventSearch}
 use Rattle.front.specs.declared.SoonestSplit.{SoonestSplit}
 use Rattle.front.specs.declared.SoonestCollapse.{SoonestCollapse}
-use Rattle.front.specs.declared.SoonestCollapse.TheVariants.{NoCollapse, CollapseAfter}
-use Rattle.front.specs.declared.SoonestSplit.TheVariants.{NoSplit, SplitAfter}
 use Rattle.plane.specs.declared.PlanarPoint.{PlanarPoint}
-use Rattle.front.specs.declared.Vertex.{Vertex}
-use Rattle.front.specs.declared.Vertex.TheVariants.{NoVertex, Moving}
+use Rattle.front.specs.declared.Moving.{Moving}
 use Rattle.front.specs.declared.Edge.{Edge}
 use Rattle.front.specs.declared.Length.{Length}
-use Rattle.front.specs.declared.Length.TheVariants.{NoLength, Long}
 use Rattle.front.specs.declared.Event.{Event}
 use Rattle.front.specs.declared.Event.TheVariants.{Never, Collapse, Split, Stalled}
 use Rattle.math.specs.Number
@@ -29,20 +25,20 @@ unfoldable pub look_stalled : EventSearch → EventSearch
 look_stalled s = record { stalled = true; collapse = s.collapse; split = s.split }
 
 unfoldable pub look_split : EventSearch → SoonestSplit → EventSearch
-look_split s h = record { stalled = s.stalled; collapse = s.collapse; split = h }
+look_split s h = record { stalled = s.stalled; collapse = s.collapse; split = Some h }
 
 unfoldable pub look_collapse : EventSearch → SoonestCollapse → EventSearch
-look_collapse s c = record { stalled = s.stalled; collapse = c; split = s.split }
+look_collapse s c = record { stalled = s.stalled; collapse = Some c; split = s.split }
 
 -- the first of the soonest collapses
-unfoldable pub sooner : ℕ → Float → SoonestCollapse → SoonestCollapse
-sooner slot step NoCollapse = CollapseAfter slot step
-sooner slot step (CollapseAfter k s) = cond (lt step s) (CollapseAfter slot step) (CollapseAfter k s)
+unfoldable pub sooner : ℕ → Float → Option SoonestCollapse → SoonestCollapse
+sooner slot step None = record { edge = slot; step = step }
+sooner slot step (Some c) = cond (lt step c.step) (record { edge = slot; step = step }) c
 
 -- a split no sooner than the one in hand is passed over
-unfoldable pub late : Float → SoonestSplit → Bool
-late step NoSplit = false
-late step (SplitAfter v e s) = le s step
+unfoldable pub late : Float → Option SoonestSplit → Bool
+late step None = false
+late step (Some h) = le h.step step
 
 -- ---- the inner loop: the start vertex of the edge at `slot`, at p with velocity v, against the edge `target` at `other`
 
@@ -50,14 +46,17 @@ late step (SplitAfter v e s) = le s step
 unfoldable pub hit_within : PlanarPoint → PlanarPoint → PlanarPoint → PlanarPoint → Bool
 hit_within u p from to = le (neg on_edge) (dot u (sub p from)) && le (neg on_edge) (dot u (sub to p))
 
-unfoldable pub hit_to : ℕ → ℕ → PlanarPoint → Float → PlanarPoint → PlanarPoint → EventSearch → Vertex → EventSearch
-hit_to slot other u step p from s NoVertex = look_stalled s
-hit_to slot other u step p from s (Moving to w) = cond (hit_within u p from to) (look_split s (SplitAfter slot other step)) s
+unfoldable pub hit_to : ℕ → ℕ → PlanarPoint → Float → PlanarPoint → PlanarPoint → EventSearch → Option Moving →
+    EventSearch
+hit_to slot other u step p from s None = look_stalled s
+hit_to slot other u step p from s (Some to) =
+    cond (hit_within u p from to.at) (look_split s (record { vertex = slot; edge = other; step = step })) s
 
-unfoldable pub hit_from : List Edge → ℕ → ℕ → Edge → Float → Float → PlanarPoint → EventSearch → Vertex → EventSearch
-hit_from f slot other target step at p s NoVertex = look_stalled s
-hit_from f slot other target step at p s (Moving from w) =
-    hit_to slot other (direction (edge_line target)) step p from s (vertex f target.next at)
+unfoldable pub hit_from : List Edge → ℕ → ℕ → Edge → Float → Float → PlanarPoint → EventSearch → Option Moving →
+    EventSearch
+hit_from f slot other target step at p s None = look_stalled s
+hit_from f slot other target step at p s (Some from) =
+    hit_to slot other (direction (edge_line target)) step p from.at s (vertex f target.next at)
 
 unfoldable pub hit_then : List Edge → Float → ℕ → ℕ → Edge → PlanarPoint → PlanarPoint → Float → EventSearch →
     EventSearch
@@ -103,13 +102,14 @@ look_corner f t slot e p v s =
 unfoldable pub shrinking : ℕ → Float → Float → EventSearch → EventSearch
 shrinking slot l rate s = cond (lt rate zero_float) (look_collapse s (sooner slot (div (fmax l zero_float) (neg rate)) s.collapse)) s
 
-unfoldable pub look_length : List Edge → Float → ℕ → Edge → PlanarPoint → PlanarPoint → EventSearch → Length → EventSearch
-look_length f t slot e p v s NoLength = look_stalled s
-look_length f t slot e p v s (Long l rate) = look_corner f t slot e p v (shrinking slot l rate s)
+unfoldable pub look_length : List Edge → Float → ℕ → Edge → PlanarPoint → PlanarPoint → EventSearch → Option Length →
+    EventSearch
+look_length f t slot e p v s None = look_stalled s
+look_length f t slot e p v s (Some l) = look_corner f t slot e p v (shrinking slot l.value l.rate s)
 
-unfoldable pub look_vertex : List Edge → Float → ℕ → Edge → EventSearch → Vertex → EventSearch
-look_vertex f t slot e s NoVertex = look_stalled s
-look_vertex f t slot e s (Moving p v) = look_length f t slot e p v s (edge_length f slot t)
+unfoldable pub look_vertex : List Edge → Float → ℕ → Edge → EventSearch → Option Moving → EventSearch
+look_vertex f t slot e s None = look_stalled s
+look_vertex f t slot e s (Some m) = look_length f t slot e m.at m.velocity s (edge_length f slot t)
 
 unfoldable pub look_at : List Edge → Float → ℕ → Edge → EventSearch → EventSearch
 look_at f t slot e s = cond (not s.stalled && e.alive) (look_vertex f t slot e s (vertex f slot t)) s
@@ -118,17 +118,18 @@ unfoldable pub look_step : List Edge → Float → ℕ → EventSearch → Event
 look_step f t slot s = look_at f t slot (edge f slot) s
 
 unfoldable pub look : List Edge → Float → EventSearch
-look f t = rounds (look_step f t) 128 (record { stalled = false; collapse = NoCollapse; split = NoSplit })
+look f t = rounds (look_step f t) 128 (record { stalled = false; collapse = None; split = None })
 
 -- ---- the event
 
 -- A split goes before a collapse only if its step < collapse step - 1e-12 × (1 + t). Where there is neither, the Rust gives an edge event
 -- infinitely far, which ends the walk; here that is `Never`, and that the two agree at every stage is in `Demand` (`never`).
-unfoldable pub choose : Float → SoonestCollapse → SoonestSplit → Event
-choose t NoCollapse NoSplit = Never
-choose t NoCollapse (SplitAfter v e s) = Split v e s
-choose t (CollapseAfter k c) NoSplit = Collapse k c
-choose t (CollapseAfter k c) (SplitAfter v e s) = cond (lt s (Number.sub c (mul tie (add one t)))) (Split v e s) (Collapse k c)
+unfoldable pub choose : Float → Option SoonestCollapse → Option SoonestSplit → Event
+choose t None None = Never
+choose t None (Some h) = Split h.vertex h.edge h.step
+choose t (Some c) None = Collapse c.edge c.step
+choose t (Some c) (Some h) =
+    cond (lt h.step (Number.sub c.step (mul tie (add one t)))) (Split h.vertex h.edge h.step) (Collapse c.edge c.step)
 
 unfoldable pub event_of : Float → EventSearch → Event
 event_of t s = cond s.stalled Stalled (choose t s.collapse s.split)

@@ -1,7 +1,7 @@
 -- offset.rs, `offset_rings`, its main loop: the events, one after the other, until the front has come to the distance. Each offset also
 -- hands back its completed events:
 -- collapses, dividing splits and joining splits, never what tidying removes. Assumes nothing.
-use Rattle.std.specs.Prelude.{ℕ, ◌+◌, Bool, true, false, cond, not, ◌&&◌, List, ltb, Float}
+use Rattle.std.specs.Prelude.{ℕ, ◌+◌, Bool, true, false, cond, not, ◌&&◌, List, ltb, Float, Option, Some, None}
 use Rattle.std.specs.Float.Ieee.{le}
 use Rattle.front.specs.declared.Sweep.{Sweep}
 use Rattle.error.specs.declared.Refusal.{Refusal}
@@ -9,8 +9,7 @@ use Rattle.front.specs.declared.Edge.{Edge}
 use Rattle.error.specs.declared.Refusal.TheVariants.{Granted, Splits, Slots, Unfinished}
 use Rattle.front.specs.declared.Front.{Front}
 use Rattle.plane.specs.declared.PlanarPoint.{PlanarPoint}
-use Rattle.front.specs.declared.Vertex.{Vertex}
-use Rattle.front.specs.declared.Vertex.TheVariants.{NoVertex, Moving}
+use Rattle.front.specs.declared.Moving.{Moving}
 use Rattle.front.specs.declared.Event.{Event}
 use Rattle.front.specs.declared.Event.TheVariants.{Stalled, Never, Collapse, Split}
 use Rattle.front.specs.declared.Loaded.{Loaded}
@@ -107,9 +106,9 @@ split_into s f v e p t one_ring copy =
 unfoldable pub split_of : Sweep → List Edge → ℕ → ℕ → PlanarPoint → Float → Bool → Sweep
 split_of s f v e p t one_ring = split_into s f v e p t one_ring (free f)
 
-unfoldable pub split_at : Float → Sweep → List Edge → ℕ → ℕ → Float → Vertex → Sweep
-split_at d s f v e t NoVertex = sweep_refused s (Splits d)
-split_at d s f v e t (Moving p w) = split_of s f v e p t (one_ring f v e)
+unfoldable pub split_at : Float → Sweep → List Edge → ℕ → ℕ → Float → Option Moving → Sweep
+split_at d s f v e t None = sweep_refused s (Splits d)
+split_at d s f v e t (Some m) = split_of s f v e m.at t (one_ring f v e)
 
 unfoldable pub split : Float → Sweep → List Edge → ℕ → ℕ → Float → Sweep
 split d s f v e t = split_at d s f v e t (vertex f v t)

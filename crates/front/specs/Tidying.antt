@@ -1,18 +1,14 @@
 -- offset.rs, `Front::tidy`: rings too small, straight vertices, spikes and edges of no length are taken out, one after the other. Assumes
 -- nothing.
-use Rattle.std.specs.Prelude.{ℕ, Bool, false, cond, not, ◌&&◌, ◌||◌, List, ltb, eqb, Float}
+use Rattle.std.specs.Prelude.{ℕ, Bool, false, cond, not, ◌&&◌, ◌||◌, List, ltb, eqb, Float, Option, Some, None}
 use Rattle.std.specs.Float.Ieee.{lt, le}
 use Rattle.front.specs.declared.Length.{Length}
-use Rattle.front.specs.declared.Length.TheVariants.{NoLength, Long}
 use Rattle.front.specs.declared.Tidy.{Tidy}
 use Rattle.front.specs.declared.Tidy.TheVariants.{Settled, Empty, Straight, Spike, SmallRing}
 use Rattle.plane.specs.declared.PlanarPoint.{PlanarPoint}
 use Rattle.front.specs.declared.Edge.{Edge}
 use Rattle.front.specs.declared.Front.{Front}
-use Rattle.front.specs.declared.Place.{Place}
-use Rattle.front.specs.declared.Place.TheVariants.{Nowhere, There}
-use Rattle.front.specs.declared.Vertex.{Vertex}
-use Rattle.front.specs.declared.Vertex.TheVariants.{NoVertex, Moving}
+use Rattle.front.specs.declared.Moving.{Moving}
 use Rattle.math.specs.Number.{add, mul, one, zero_float, abs, div, two}
 use Rattle.front.specs.Thresholds.{on_edge, tie, parallel, opposite}
 use Rattle.plane.specs.Plane.{dot, cross}
@@ -27,9 +23,9 @@ use Rattle.base.specs.Loop.{rounds}
 unfoldable pub empty : Float → Float → Float → Bool
 empty t l rate = le l (mul on_edge (add one t)) && le rate tie
 
-unfoldable pub tidy_length : ℕ → Float → Length → Tidy
-tidy_length slot t NoLength = Settled
-tidy_length slot t (Long l rate) = cond (empty t l rate) (Empty slot) Settled
+unfoldable pub tidy_length : ℕ → Float → Option Length → Tidy
+tidy_length slot t None = Settled
+tidy_length slot t (Some l) = cond (empty t l.value l.rate) (Empty slot) Settled
 
 -- `Tidy::Parallel`: an edge and its next on one line, facing opposite ways (a spike) or the same way (a straight vertex)
 unfoldable pub opposed : PlanarPoint → PlanarPoint → Bool
@@ -92,22 +88,22 @@ drop_straight f next t = then_remove next (anchor f (edge f next).next t)
 unfoldable pub midpoint : PlanarPoint → PlanarPoint → PlanarPoint
 midpoint p q = record { east = div (add p.east q.east) two; north = div (add p.north q.north) two }
 
-unfoldable pub meeting_or : PlanarPoint → PlanarPoint → Place → PlanarPoint
-meeting_or p q Nowhere = midpoint p q
-meeting_or p q (There r) = r
+unfoldable pub meeting_or : PlanarPoint → PlanarPoint → Option PlanarPoint → PlanarPoint
+meeting_or p q None = midpoint p q
+meeting_or p q (Some r) = r
 
 -- a spike, or an inlet of no width: both edges go, and the edges on either side, `before` and `after`, meet afresh
 unfoldable pub drop_both : List Edge → ℕ → ℕ → ℕ → PlanarPoint → Float → Front
 drop_both f slot next after start t = altered (set_start (remove (remove f next) slot) after start t)
 
-unfoldable pub spike_to : List Edge → ℕ → ℕ → ℕ → ℕ → Float → PlanarPoint → Vertex → Front
-spike_to f slot before next after t p NoVertex = stalled f
-spike_to f slot before next after t p (Moving q w) =
-    drop_both f slot next after (meeting_or p q (meeting (edge_line (edge f before)) (edge_line (edge f after)) t)) t
+unfoldable pub spike_to : List Edge → ℕ → ℕ → ℕ → ℕ → Float → PlanarPoint → Option Moving → Front
+spike_to f slot before next after t p None = stalled f
+spike_to f slot before next after t p (Some to) =
+    drop_both f slot next after (meeting_or p to.at (meeting (edge_line (edge f before)) (edge_line (edge f after)) t)) t
 
-unfoldable pub spike_from : List Edge → ℕ → ℕ → ℕ → ℕ → Float → Vertex → Front
-spike_from f slot before next after t NoVertex = stalled f
-spike_from f slot before next after t (Moving p v) = spike_to f slot before next after t p (vertex f after t)
+unfoldable pub spike_from : List Edge → ℕ → ℕ → ℕ → ℕ → Float → Option Moving → Front
+spike_from f slot before next after t None = stalled f
+spike_from f slot before next after t (Some from) = spike_to f slot before next after t from.at (vertex f after t)
 
 unfoldable pub drop_spike : List Edge → ℕ → ℕ → Float → Front
 drop_spike f slot next t = spike_from f slot (edge f slot).previous next (edge f next).next t (vertex f slot t)

@@ -1,12 +1,12 @@
 -- What tidying leaves: nothing more to take out, and a velocity for every live vertex. So only tidying itself ever meets a vertex without
 -- one, and 17 inside the walk of an offset comes from there alone. Proved in proofs/Demand, `same_bits` in Moves.antt and `front_velocity`
 -- in Whole.antt. Assumes nothing.
-use Rattle.std.specs.Prelude.{◌≡◌, ◌≢◌, true, false, List, ℕ, Float}
+use Rattle.std.specs.Prelude.{◌≡◌, ◌≢◌, true, false, List, ℕ, Float, Some}
 use Rattle.std.specs.Float.Ieee.{neg}
 use Rattle.plane.specs.declared.PlanarPoint.{PlanarPoint}
 use Rattle.front.specs.declared.Line.{Line}
 use Rattle.front.specs.declared.Edge.{Edge}
-use Rattle.front.specs.declared.Vertex.TheVariants.{Moving}
+use Rattle.front.specs.declared.Moving.{Moving}
 use Rattle.front.specs.declared.Tidy.TheVariants.{Settled}
 use Rattle.front.specs.declared.Event.TheVariants.{Stalled}
 use Rattle.front.specs.declared.Loaded.{Loaded}
@@ -34,7 +34,7 @@ SameBits = (a b : Line) → LeftNormal a → LeftNormal b → dot (normal a) (no
 
 -- the start vertex of each live edge has a velocity, at every offset
 abbrev pub Moves : List Edge → Type 0
-Moves f = (x : ℕ) → (links f).live x ≡ 1 → (t : Float) → (p : PlanarPoint) × (v : PlanarPoint) × (vertex f x t ≡ Moving p v)
+Moves f = (x : ℕ) → (links f).live x ≡ 1 → (t : Float) → (m : Moving) × (vertex f x t ≡ Some m)
 
 -- ---- the run of an offset
 

@@ -54,32 +54,18 @@ impl Edge {
     pub const TIE: f64 = 1e-12;
 }
 
-// A line, if the two points differ.
+// The start vertex of an edge: where it is, and its velocity.
 #[derive(Clone, Copy)]
-pub enum Through {
-    NoLine,
-    Along(Line),
+pub struct Moving {
+    pub at: PlanarPoint,
+    pub velocity: PlanarPoint,
 }
 
-// A point or a velocity, if there is one.
+// An edge's length and its rate of change.
 #[derive(Clone, Copy)]
-pub enum Place {
-    Nowhere,
-    There(PlanarPoint),
-}
-
-// A start vertex and its velocity, if it has one.
-#[derive(Clone, Copy)]
-pub enum Vertex {
-    NoVertex,
-    Moving(PlanarPoint, PlanarPoint),
-}
-
-// An edge's length and its rate of change, if its ends have velocities.
-#[derive(Clone, Copy)]
-pub enum Length {
-    NoLength,
-    Long(f64, f64),
+pub struct Length {
+    pub value: f64,
+    pub rate: f64,
 }
 
 // What a tidying step removes, and at which slot: nothing; a ring of fewer than three edges; the second of two neighbours that face the
@@ -93,25 +79,26 @@ pub enum Tidy {
     Empty(usize),
 }
 
-// The soonest collapse, and the soonest split, found so far.
+// The edge that collapses, and after which step; the vertex that hits an edge, and after which step.
 #[derive(Clone, Copy)]
-pub enum SoonestCollapse {
-    NoCollapse,
-    CollapseAfter(usize, f64),
+pub struct SoonestCollapse {
+    pub edge: usize,
+    pub step: f64,
 }
 
 #[derive(Clone, Copy)]
-pub enum SoonestSplit {
-    NoSplit,
-    SplitAfter(usize, usize, f64),
+pub struct SoonestSplit {
+    pub vertex: usize,
+    pub edge: usize,
+    pub step: f64,
 }
 
-// The search for the next event. `stalled`: a vertex that it needed has no velocity.
+// The search for the next event: the soonest collapse and the soonest split so far. `stalled`: a vertex that it needed has no velocity.
 #[derive(Clone, Copy)]
 pub struct EventSearch {
     pub stalled: bool,
-    pub collapse: SoonestCollapse,
-    pub split: SoonestSplit,
+    pub collapse: Option<SoonestCollapse>,
+    pub split: Option<SoonestSplit>,
 }
 
 // The next event, and how much further it lies. `Stalled`: a vertex has no velocity; `Never`: nothing shrinks and nothing is hit.

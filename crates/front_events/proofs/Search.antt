@@ -1,7 +1,7 @@
 -- What holds at the head of each loop of the search, and what follows where the search ends. Assumes nothing.
-use Prim.Native.Nat.{ℕ, ◌+◌, ◌-◌, ◌<◌, ◌≤◌}
+use Prim.Native.Nat.{ℕ, ◌+◌, ◌<◌, ◌≤◌}
 use mathlib.Core.Path.{◌≡◌, refl, sym, ap, ◌∙◌}
-use mathlib.Core.Bool.{Bool, true, false, cond, not, true≢false, false≢true}
+use mathlib.Core.Bool.{Bool, true, false, cond}
 use mathlib.Core.List.{List}
 use native.Mathlib.Omega.{arith}
 use lib.Ieee.{Float}
@@ -17,14 +17,9 @@ use Rattle.base.proofs.Laws.{no_round, next_round, goes_on, ends, stays_to}
 use Rattle.front_events.specs.Found.{collapse_of, split_of, search_of, used_slots}
 use Rattle.front_events.proofs.Used.{used_room, looks_used}
 
--- a front that is not tidied is not searched
-pub not_tidied : (b : Bool) (x y : Event) → not b ≡ true → y ≡ cond b x y
-not_tidied true x y h = absurd (false≢true h)
-not_tidied false x y h = refl
-
-pub when_tidied : (b : Bool) (x y : Event) → not b ≡ false → x ≡ cond b x y
-when_tidied true x y h = refl
-when_tidied false x y h = absurd (true≢false h)
+-- a front that is tidied is searched
+pub when_tidied : (b : Bool) (x y : Event) → b ≡ true → x ≡ cond b x y
+when_tidied b x y h = rw h refl
 
 -- before the first round
 abbrev pub none : EventSearch

@@ -9,25 +9,22 @@ use Rattle.plane.specs.declared.PlanarPoint.{PlanarPoint}
 use Rattle.plane.specs.Plane.{dot, sub, cross}
 use Rattle.math.specs.Number.{zero_float, div, fmax, add}
 use Rattle.front.specs.declared.Edge.{Edge}
-use Rattle.front.specs.declared.Vertex.{Vertex}
-use Rattle.front.specs.declared.Vertex.TheVariants.{NoVertex, Moving}
+use Rattle.front.specs.declared.Moving.{Moving}
+use Rattle.std.specs.Prelude.{Option, None, Some}
 use Rattle.front.specs.declared.Length.{Length}
 use Rattle.front.specs.declared.EventSearch.{EventSearch}
 use Rattle.front.specs.declared.SoonestCollapse.{SoonestCollapse}
-use Rattle.front.specs.declared.SoonestCollapse.TheVariants.{CollapseAfter}
-use Rattle.front.specs.declared.SoonestSplit.TheVariants.{SplitAfter}
 use Rattle.front.specs.Lines.{direction}
 use Rattle.front.specs.Edges.{edge, edge_line, vertex_of, vertex, moved_by, length_to, edge_length}
 use Rattle.front.specs.NextEvent.{look_stalled, look_split, look_collapse, sooner, late, hit_to, hit_from, hit_then, hit_after, hit_closing, hit_at, candidate, hit_step, hits, look_corner, shrinking, look_length, look_vertex, look_at}
 use Rattle.front.specs.NextEvent.{look_step}
 use Rattle.base.specs.Loop.{rounds}
 use Rattle.base.proofs.Laws.{no_round}
-use Rattle.front_lines.specs.Moving.{length_between}
+use Rattle.front_lines.specs.Between.{length_between}
 use Rattle.front_events.proofs.Used.{hits_used}
 use Rattle.front_lines.proofs.Ends.{length_is}
-use Rattle.front_events.specs.declared.Struck.{Struck}
 use Rattle.front_events.specs.declared.Look.{Look}
-use Rattle.front_events.specs.Found.{collapse_of, split_of, search_of, closing, step_to, strike, shrink, corner_of, reflex, start_of, look_by, look_from, look_of, strike_at, used_slots}
+use Rattle.front_events.specs.Found.{collapse_of, split_of, search_of, closing, step_to, strike, shrink, reflex, start_of, look_by, look_from, look_of, strike_at, used_slots}
 
 -- ---- the state in scalars
 
@@ -37,7 +34,7 @@ late_of false x y s step = refl
 late_of true x y s step = refl
 
 search_or : (b : Bool) (k : ℕ) (soon : Float) (on d : Bool) (i j x y : ℕ) (q s : Float) →
-    cond on (look_split (search_of b k soon d x y s) (SplitAfter i j q)) (search_of b k soon d x y s)
+    cond on (look_split (search_of b k soon d x y s) (record { vertex = i; edge = j; step = q })) (search_of b k soon d x y s)
     ≡ search_of b k soon (d || on) (cond on i x) (cond on j y) (cond on q s)
 unfolding search_of split_of look_split
 search_or b k soon true true i j x y q s = refl
@@ -46,7 +43,7 @@ search_or b k soon false true i j x y q s = refl
 search_or b k soon false false i j x y q s = refl
 
 collapse_or : (r b : Bool) (a k : ℕ) (q soon : Float) →
-    cond r (sooner a q (collapse_of b k soon)) (collapse_of b k soon)
+    cond r (Some (sooner a q (collapse_of b k soon))) (collapse_of b k soon)
     ≡ collapse_of (b || (r && (not b || lt q soon))) (cond (r && (not b || lt q soon)) a k) (cond (r && (not b || lt q soon)) q soon)
 unfolding collapse_of sooner
 collapse_or false true a k q soon = refl
@@ -54,7 +51,10 @@ collapse_or false false a k q soon = refl
 collapse_or true false a k q soon = refl
 collapse_or true true a k q soon = go (lt q soon)
   where
-    go : (m : Bool) → cond m (CollapseAfter a q) (CollapseAfter k soon) ≡ CollapseAfter (cond m a k) (cond m q soon)
+    at : ℕ → Float → SoonestCollapse
+    at edge step = record { edge = edge; step = step }
+
+    go : (m : Bool) → Some (cond m (at a q) (at k soon)) ≡ Some (at (cond m a k) (cond m q soon))
     go true = refl
     go false = refl
 
@@ -68,18 +68,19 @@ tests true false false false x y = refl
 
 -- ---- the inner loop
 
-struck_on : EventSearch → ℕ → ℕ → Float → Struck → EventSearch
-struck_on s slot other step h = cond h.lost (look_stalled s) (cond h.on (look_split s (SplitAfter slot other step)) s)
+struck_on : EventSearch → ℕ → ℕ → Float → Option Bool → EventSearch
+struck_on s slot other step None = look_stalled s
+struck_on s slot other step (Some on) = cond on (look_split s (record { vertex = slot; edge = other; step = step })) s
 
-strikes : (f : List Edge) (slot other : ℕ) (g : Edge) (step at : Float) (p : PlanarPoint) (s : EventSearch) (x : Vertex) →
+strikes : (f : List Edge) (slot other : ℕ) (g : Edge) (step at : Float) (p : PlanarPoint) (s : EventSearch) (x : Option Moving) →
     hit_from f slot other g step at p s x ≡ struck_on s slot other step (strike g p x (vertex f g.next at))
 unfolding hit_from hit_to struck_on strike
-strikes f slot other g step at p s NoVertex = refl
-strikes f slot other g step at p s (Moving from v) = go (vertex f g.next at)
+strikes f slot other g step at p s None = refl
+strikes f slot other g step at p s (Some from) = go (vertex f g.next at)
   where
-    go : (y : Vertex) → hit_to slot other (direction (edge_line g)) step p from s y ≡ struck_on s slot other step (strike g p (Moving from v) y)
-    go NoVertex = refl
-    go (Moving to w) = refl
+    go : (y : Option Moving) → hit_to slot other (direction (edge_line g)) step p from.at s y ≡ struck_on s slot other step (strike g p (Some from) y)
+    go None = refl
+    go (Some to) = refl
 
 module _ (f : List Edge) (t : Float) (slot before : ℕ) (p v : PlanarPoint) (other : ℕ) (b : Bool) (k : ℕ) (soon : Float) (d : Bool) (x y : ℕ) (step : Float) where
   abbrev here : EventSearch
@@ -127,7 +128,7 @@ module _ (f : List Edge) (t : Float) (slot before : ℕ) (p v : PlanarPoint) (ot
       pub passes_step : in_time q ≡ false → hit_step f t slot before p v other here ≡ here
       passes_step h = by_step ∙ ap (λ (z : Bool). cond z (hit_then f t slot other g p v q here) here) h
 
-      module _ (a : in_time q ≡ true) (first last own : Edge) (h : Struck) (ea : first ≡ edge f g.previous) (el : last ≡ edge f g.next)
+      module _ (a : in_time q ≡ true) (first last own : Edge) (h : Option Bool) (ea : first ≡ edge f g.previous) (el : last ≡ edge f g.next)
           (eo : own ≡ edge f last.previous) (eh : h ≡ strike_at first g own last p v q t) where
         struck_as : hit_then f t slot other g p v q here ≡ struck_on here slot other q h
         struck_as = rw (eh, eo, el, ea, eg) (then_struck q)
@@ -135,17 +136,14 @@ module _ (f : List Edge) (t : Float) (slot before : ℕ) (p v : PlanarPoint) (ot
         by_strike : hit_step f t slot before p v other here ≡ struck_on here slot other q h
         by_strike = by_step ∙ ap (λ (z : Bool). cond z (hit_then f t slot other g p v q here) here) a ∙ struck_as
 
-        pub strikes_lost : h.lost ≡ true → hit_step f t slot before p v other here ≡ look_stalled here
+        pub strikes_lost : h ≡ None → hit_step f t slot before p v other here ≡ look_stalled here
         unfolding struck_on
-        strikes_lost l = by_strike ∙ ap (λ (z : Bool). cond z (look_stalled here) (cond h.on (look_split here (SplitAfter slot other q)) here)) l
+        strikes_lost l = by_strike ∙ rw l refl
 
-        pub strikes_on : (x' y' : ℕ) (step' : Float) → x' ≡ cond h.on slot x → y' ≡ cond h.on other y → step' ≡ cond h.on q step → h.lost ≡ false →
-            hit_step f t slot before p v other here ≡ search_of b k soon (d || h.on) x' y' step'
+        pub strikes_on : (on : Bool) (x' y' : ℕ) (step' : Float) → x' ≡ cond on slot x → y' ≡ cond on other y → step' ≡ cond on q step → h ≡ Some on →
+            hit_step f t slot before p v other here ≡ search_of b k soon (d || on) x' y' step'
         unfolding struck_on
-        strikes_on x' y' step' ex ey ez l =
-            by_strike
-            ∙ ap (λ (z : Bool). cond z (look_stalled here) (cond h.on (look_split here (SplitAfter slot other q)) here)) l
-            ∙ rw (ex, ey, ez) (search_or b k soon h.on d slot other x y q step)
+        strikes_on on x' y' step' ex ey ez l = by_strike ∙ rw (l, ex, ey, ez) (search_or b k soon on d slot other x y q step)
 
 -- ---- the outer loop
 
@@ -157,8 +155,8 @@ module _ (f : List Edge) (t : Float) (slot : ℕ) (b : Bool) (k : ℕ) (soon : F
       cond r (look_collapse now (sooner slot q (collapse_of b k soon))) now
       ≡ search_of (b || (r && (not b || lt q soon))) (cond (r && (not b || lt q soon)) slot k) (cond (r && (not b || lt q soon)) q soon) d x y step
   unfolding search_of look_collapse
-  shrinks_by true q = ap (λ (c : SoonestCollapse). record { stalled = false; collapse = c; split = split_of d x y step }) (collapse_or true b slot k q soon)
-  shrinks_by false q = ap (λ (c : SoonestCollapse). record { stalled = false; collapse = c; split = split_of d x y step }) (collapse_or false b slot k q soon)
+  shrinks_by true q = ap (λ (c : Option SoonestCollapse). record { stalled = false; collapse = c; split = split_of d x y step }) (collapse_or true b slot k q soon)
+  shrinks_by false q = ap (λ (c : Option SoonestCollapse). record { stalled = false; collapse = c; split = split_of d x y step }) (collapse_or false b slot k q soon)
 
   corners : (before e : Edge) (p v : PlanarPoint) (s : EventSearch) → before ≡ edge f e.previous →
       look_corner f t slot e p v s ≡ rounds (hit_step f t slot e.previous p v) (cond (reflex (edge_line before) (edge_line e)) (used_slots f) 0) s
@@ -170,29 +168,30 @@ module _ (f : List Edge) (t : Float) (slot : ℕ) (b : Bool) (k : ℕ) (soon : F
       go false = hits_used f t slot e.previous p v s
 
   abbrev shrunk : Look → EventSearch
-  shrunk u = search_of (b || u.sooner) (cond u.sooner slot k) (cond u.sooner u.step soon) d x y step
+  shrunk u = search_of (b || u.gone.sooner) (cond u.gone.sooner slot k) (cond u.gone.sooner u.gone.step soon) d x y step
 
-  looked : Edge → Look → EventSearch
-  looked e u = cond u.lost (look_stalled now) (rounds (hit_step f t slot e.previous u.at u.velocity) (cond u.reflex (used_slots f) 0) (shrunk u))
+  looked : Edge → Option Look → EventSearch
+  looked e None = look_stalled now
+  looked e (Some u) = rounds (hit_step f t slot e.previous u.start.at u.start.velocity) (cond u.reflex (used_slots f) 0) (shrunk u)
 
-  with_length : Edge → Vertex → Length → EventSearch
-  with_length e NoVertex l = look_stalled now
-  with_length e (Moving p v) l = look_length f t slot e p v now l
+  with_length : Edge → Option Moving → Option Length → EventSearch
+  with_length e None l = look_stalled now
+  with_length e (Some m) l = look_length f t slot e m.at m.velocity now l
 
-  looks : (e : Edge) (u : Vertex) → look_vertex f t slot e now u ≡ with_length e u (edge_length f slot t)
+  looks : (e : Edge) (u : Option Moving) → look_vertex f t slot e now u ≡ with_length e u (edge_length f slot t)
   unfolding look_vertex with_length
-  looks e NoVertex = refl
-  looks e (Moving p v) = refl
+  looks e None = refl
+  looks e (Some m) = refl
 
-  looked_as : (before e : Edge) (u w : Vertex) → before ≡ edge f e.previous → with_length e u (length_between e u w) ≡ looked e (look_from before e u w b soon)
-  unfolding with_length looked look_from look_by corner_of shrink length_between length_to look_length shrinking search_of
-  looked_as before e NoVertex w h = refl
-  looked_as before e (Moving p v) NoVertex h = refl
-  looked_as before e (Moving p v) (Moving p' v') h =
-      corners before e p v _ h
-      ∙ ap (rounds (hit_step f t slot e.previous p v) (cond (reflex (edge_line before) (edge_line e)) (used_slots f) 0))
-      (shrinks_by (lt (dot (direction (edge_line e)) (sub v' v)) zero_float)
-      (div (fmax (dot (direction (edge_line e)) (sub p' p)) zero_float) (neg (dot (direction (edge_line e)) (sub v' v)))))
+  looked_as : (before e : Edge) (u w : Option Moving) → before ≡ edge f e.previous → with_length e u (length_between e u w) ≡ looked e (look_from before e u w b soon)
+  unfolding with_length looked look_from look_by shrink length_between length_to look_length shrinking search_of
+  looked_as before e None w h = refl
+  looked_as before e (Some m) None h = refl
+  looked_as before e (Some m) (Some n) h =
+      corners before e m.at m.velocity _ h
+      ∙ ap (rounds (hit_step f t slot e.previous m.at m.velocity) (cond (reflex (edge_line before) (edge_line e)) (used_slots f) 0))
+      (shrinks_by (lt (dot (direction (edge_line e)) (sub n.velocity m.velocity)) zero_float)
+      (div (fmax (dot (direction (edge_line e)) (sub n.at m.at)) zero_float) (neg (dot (direction (edge_line e)) (sub n.velocity m.velocity)))))
 
   live : (edge f slot).alive ≡ true →
       look_step f t slot now
@@ -206,17 +205,17 @@ module _ (f : List Edge) (t : Float) (slot : ℕ) (b : Bool) (k : ℕ) (soon : F
       ∙ looked_as (edge f (edge f slot).previous) (edge f slot) (vertex f slot t) (vertex f (edge f slot).next t) refl
 
   module _ (e : Edge) (ee : e ≡ edge f slot) where
-    module _ (before after back : Edge) (u : Look) (ea : e.alive ≡ true) (eb : before ≡ edge f e.previous) (en : after ≡ edge f e.next) (ek : back ≡ edge f after.previous)
+    module _ (before after back : Edge) (u : Option Look) (ea : e.alive ≡ true) (eb : before ≡ edge f e.previous) (en : after ≡ edge f e.next) (ek : back ≡ edge f after.previous)
         (eu : u ≡ look_of before e back after t b soon) where
       live_look : look_step f t slot now ≡ looked e u
       live_look = rw (eu, ek, en, eb, ee) (live (ap (λ (z : Edge). z.alive) (sym ee) ∙ ea))
 
-      pub look_lost : u.lost ≡ true → look_step f t slot now ≡ look_stalled now
+      pub look_lost : u ≡ None → look_step f t slot now ≡ look_stalled now
       unfolding looked
       look_lost l = live_look ∙ rw l refl
 
-      pub look_on : (k' : ℕ) (soon' : Float) → k' ≡ cond u.sooner slot k → soon' ≡ cond u.sooner u.step soon → u.lost ≡ false →
+      pub look_on : (w : Look) (k' : ℕ) (soon' : Float) → k' ≡ cond w.gone.sooner slot k → soon' ≡ cond w.gone.sooner w.gone.step soon → u ≡ Some w →
           look_step f t slot now
-          ≡ rounds (hit_step f t slot e.previous u.at u.velocity) (cond u.reflex (used_slots f) 0) (search_of (b || u.sooner) k' soon' d x y step)
+          ≡ rounds (hit_step f t slot e.previous w.start.at w.start.velocity) (cond w.reflex (used_slots f) 0) (search_of (b || w.gone.sooner) k' soon' d x y step)
       unfolding looked
-      look_on k' soon' ek' es l = live_look ∙ rw (l, ek', es) refl
+      look_on w k' soon' ek' es l = live_look ∙ rw (l, ek', es) refl

@@ -6,40 +6,22 @@ ghost use Rattle.front.specs.NextEvent;
 ghost use Rattle.front.specs.declared.Event.TheVariants.{Never};
 ghost use Rattle.front_events.specs.Found;
 
-use front::{Edge, Event, Length, Line, Vertex};
+use front::{Edge, Event, Length, Line, Moving};
 use plane::PlanarPoint;
 
-// Whether a vertex hits an edge. `lost`: a vertex of the edge has no velocity.
-#[derive(Clone, Copy)]
-pub struct Struck {
-    pub lost: bool,
-    pub on: bool,
-}
-
-// Whether an edge is gone sooner than the soonest so far, and after which step. `lost`: an end has no velocity.
+// Whether an edge is gone sooner than the soonest so far, and after which step.
 #[derive(Clone, Copy)]
 pub struct Gone {
-    pub lost: bool,
     pub sooner: bool,
     pub step: f64,
 }
 
-// A live edge: whether and when it is gone, as in `Gone`; its start vertex, and whether the front turns right there.
+// A live edge whose ends have velocities: whether and when it is gone; its start vertex, and whether the front turns right there.
 #[derive(Clone, Copy)]
 pub struct Look {
-    pub lost: bool,
-    pub sooner: bool,
-    pub step: f64,
-    pub at: PlanarPoint,
-    pub velocity: PlanarPoint,
+    pub gone: Gone,
+    pub start: Moving,
     pub reflex: bool,
-}
-
-// A start vertex that moves.
-#[derive(Clone, Copy)]
-pub struct Corner {
-    pub at: PlanarPoint,
-    pub velocity: PlanarPoint,
 }
 
 // How fast a vertex with velocity v leaves an edge's line behind: below 0 it comes to it.
@@ -66,59 +48,30 @@ pub(crate) fn within(u: PlanarPoint, p: PlanarPoint, from: PlanarPoint, to: Plan
     (past >= -Edge::ON_EDGE) & (left >= -Edge::ON_EDGE)
 }
 
-// Whether a vertex that has come to an edge's line at p hits the edge, given the edge's vertices there.
-pub(crate) fn strike(target: Edge, p: PlanarPoint, from: Vertex, to: Vertex) -> Struck
+// Whether a vertex that has come to an edge's line at p hits the edge, given the edge's vertices there, if they have velocities.
+pub(crate) fn strike(
+    target: Edge,
+    p: PlanarPoint,
+    from: Option<Moving>,
+    to: Option<Moving>,
+) -> Option<bool>
     ensures { result ≡ Found.strike target p from to }
 {
+    let from = from?;
+    let to = to?;
     let u = front_lines::direction(front_lines::edge_line(target));
-    match from {
-        Vertex::NoVertex => Struck {
-            lost: true,
-            on: false,
-        },
-        Vertex::Moving(a, v) => match to {
-            Vertex::NoVertex => Struck {
-                lost: true,
-                on: false,
-            },
-            Vertex::Moving(b, w) => Struck {
-                lost: false,
-                on: within(u, p, a, b),
-            },
-        },
-    }
+    Some(within(u, p, from.at, to.at))
 }
 
-// When an edge of this length is gone, if it shrinks.
+// When an edge of this length is gone, if it shrinks. The step stands beside the test, not in an `Option`: the search chooses by the test
+// and has no branch there.
 pub(crate) fn shrink(length: Length, shrinks: bool, soon: f64) -> Gone
     ensures { result ≡ Found.shrink length shrinks soon }
 {
-    match length {
-        Length::NoLength => Gone {
-            lost: true,
-            sooner: false,
-            step: 0.0,
-        },
-        Length::Long(l, rate) => {
-            let step = math::max(l, 0.0) / -rate;
-            Gone {
-                lost: false,
-                sooner: (rate < 0.0) & (!shrinks | (step < soon)),
-                step: step,
-            }
-        }
-    }
-}
-
-pub(crate) fn corner_of(vertex: Vertex) -> Corner
-    ensures { result ≡ Found.corner_of vertex }
-{
-    match vertex {
-        Vertex::NoVertex => Corner {
-            at: PlanarPoint::ORIGIN,
-            velocity: PlanarPoint::ORIGIN,
-        },
-        Vertex::Moving(p, v) => Corner { at: p, velocity: v },
+    let step = math::max(length.value, 0.0) / -length.rate;
+    Gone {
+        sooner: (length.rate < 0.0) & (!shrinks | (step < soon)),
+        step,
     }
 }
 
@@ -155,13 +108,13 @@ pub(crate) fn event_of(
 }
 
 // The start vertex of an edge at offset t, and its velocity, given the edge before it.
-pub(crate) fn start_of(before: Edge, e: Edge, t: f64) -> Vertex
+pub(crate) fn start_of(before: Edge, e: Edge, t: f64) -> Option<Moving>
     ensures { result ≡ Found.start_of before e t }
 {
     front_lines::vertex_by(front_lines::edge_line(before), e, t)
 }
 
-// A live edge e, with its next, `after`, and the edge before each of them.
+// A live edge e, with its next, `after`, and the edge before each of them. None: an end has no velocity.
 pub(crate) fn look_of(
     before: Edge,
     e: Edge,
@@ -170,27 +123,20 @@ pub(crate) fn look_of(
     t: f64,
     shrinks: bool,
     soon: f64,
-) -> Look
+) -> Option<Look>
     ensures { result ≡ Found.look_of before e back after t shrinks soon }
 {
-    let from = start_of(before, e, t);
-    let to = start_of(back, after, t);
-    let gone = shrink(front_lines::length_between(e, from, to), shrinks, soon);
-    let corner = corner_of(from);
-    let at = corner.at;
-    let velocity = corner.velocity;
-    Look {
-        lost: gone.lost,
-        sooner: gone.sooner,
-        step: gone.step,
-        at: at,
-        velocity: velocity,
+    let start = start_of(before, e, t)?;
+    let length = front_lines::length_between(e, Some(start), start_of(back, after, t))?;
+    Some(Look {
+        gone: shrink(length, shrinks, soon),
+        start,
         reflex: reflex(front_lines::edge_line(before), front_lines::edge_line(e)),
-    }
+    })
 }
 
 // A vertex at p with velocity v comes after a step to the line of an edge, `target`, with its next, `after`, and the edge before each of
-// them.
+// them. None: a vertex of the edge has no velocity.
 pub(crate) fn strike_at(
     before: Edge,
     target: Edge,
@@ -200,7 +146,7 @@ pub(crate) fn strike_at(
     v: PlanarPoint,
     step: f64,
     t: f64,
-) -> Struck
+) -> Option<bool>
     ensures { result ≡ Found.strike_at before target back after p v step t }
 {
     let from = start_of(before, target, t + step);
@@ -209,8 +155,8 @@ pub(crate) fn strike_at(
 }
 
 // The soonest event after offset t of a front that is tidied; of another, none. A vertex without a velocity ends the search.
-pub fn next_event(tidied: bool, edges: [Edge; 128], t: f64) -> Event
-    ensures { result ≡ cond tidied (NextEvent.next_event edges t) Never }
+pub fn next_event(tidied: bool, edges: &[Edge; 128], t: f64) -> Event
+    ensures { result ≡ cond tidied (NextEvent.next_event edges.now t) Never }
 {
     if !tidied {
         return Event::Never;
@@ -223,64 +169,43 @@ pub fn next_event(tidied: bool, edges: [Edge; 128], t: f64) -> Event
     let mut hit = 0;
     let mut step = 0.0;
     // past this many slots no edge is alive
-    let mut used = 0usize;
-    let mut u = 0usize;
-    while u < 128 {
-        let own = edges[u];
-        u += 1;
-        used = base::choose(own.alive, u, used);
+    let mut used = 0;
+    for k in 0..128 {
+        used = base::choose(edges[k].alive, k + 1, used);
     }
-    let mut i = 0;
-    while i < used {
-        let slot = i;
-        i += 1;
+    for slot in 0..used {
         let e = edges[slot];
         if e.alive {
             // the edge before e, the edge after it, and the one before that
-            let p = e.previous;
-            let before = front_lines::edge_or(p < 128, edges[base::choose(p < 128, p, 0)]);
-            let n = e.next;
-            let after = front_lines::edge_or(n < 128, edges[base::choose(n < 128, n, 0)]);
-            let b = after.previous;
-            let back = front_lines::edge_or(b < 128, edges[base::choose(b < 128, b, 0)]);
-            let look = look_of(before, e, back, after, t, shrinks, soon);
-            if look.lost {
+            let before = front_lines::edge_at(edges, e.previous);
+            let after = front_lines::edge_at(edges, e.next);
+            let back = front_lines::edge_at(edges, after.previous);
+            let Some(look) = look_of(before, e, back, after, t, shrinks, soon) else {
                 return Event::Stalled;
-            }
-            shrinks = shrinks | look.sooner;
-            gone = base::choose(look.sooner, slot, gone);
-            soon = math::choose(look.sooner, look.step, soon);
+            };
+            shrinks = shrinks | look.gone.sooner;
+            gone = base::choose(look.gone.sooner, slot, gone);
+            soon = base::choose(look.gone.sooner, look.gone.step, soon);
+            let p = look.start.at;
+            let v = look.start.velocity;
             let end = base::choose(look.reflex, used, 0);
-            let mut j = 0;
-            while j < end {
-                let other = j;
-                j += 1;
+            for other in 0..end {
                 let target = edges[other];
-                let speed = closing(target, look.velocity);
-                if target.alive & ((other != slot) & (other != p)) & !(speed >= 0.0) {
-                    let s = step_to(target, look.at, t, speed);
+                let speed = closing(target, v);
+                if target.alive & ((other != slot) & (other != e.previous)) & !(speed >= 0.0) {
+                    let s = step_to(target, p, t, speed);
                     if !(s < 0.0) & !(splits & (s >= step)) {
                         // the same of the target
-                        let q = target.previous;
-                        let first = front_lines::edge_or(
-                            q < 128,
-                            edges[base::choose(q < 128, q, 0)],
-                        );
-                        let m = target.next;
-                        let last = front_lines::edge_or(
-                            m < 128,
-                            edges[base::choose(m < 128, m, 0)],
-                        );
-                        let d = last.previous;
-                        let own = front_lines::edge_or(d < 128, edges[base::choose(d < 128, d, 0)]);
-                        let h = strike_at(first, target, own, last, look.at, look.velocity, s, t);
-                        if h.lost {
+                        let first = front_lines::edge_at(edges, target.previous);
+                        let last = front_lines::edge_at(edges, target.next);
+                        let own = front_lines::edge_at(edges, last.previous);
+                        let Some(on) = strike_at(first, target, own, last, p, v, s, t) else {
                             return Event::Stalled;
-                        }
-                        splits = splits | h.on;
-                        vertex = base::choose(h.on, slot, vertex);
-                        hit = base::choose(h.on, other, hit);
-                        step = math::choose(h.on, s, step);
+                        };
+                        splits = splits | on;
+                        vertex = base::choose(on, slot, vertex);
+                        hit = base::choose(on, other, hit);
+                        step = base::choose(on, s, step);
                     }
                 }
             }

@@ -8,7 +8,7 @@ ghost use Rattle.ring.specs.Ring;
 ghost use Rattle.front_load.specs.Next;
 
 use error::Refusal;
-use front::{Edge, Line, Loaded, Through};
+use front::{Edge, Line, Loaded};
 use plane::PlanarPoint;
 
 // Vertex k of a ring that is walked forwards or backwards, relative to the origin.
@@ -33,7 +33,7 @@ pub(crate) fn load_line(
     origin: PlanarPoint,
     k: usize,
     a: PlanarPoint,
-) -> Through
+) -> Option<Line>
     ensures { result ≡ Lines.through a (Loading.load_vertex ps.now n back origin (Ring.following n k)) }
 {
     let b = load_vertex(ps, n, back, origin, ring::following(n, k));
@@ -41,15 +41,15 @@ pub(crate) fn load_line(
 }
 
 // Edge k of a ring of n, whose first edge stands in the slot `first`.
-pub(crate) fn loaded_edge(l: Line, first: usize, n: usize, k: usize, a: PlanarPoint) -> Edge
+pub(crate) fn loaded_edge(line: Line, first: usize, n: usize, k: usize, a: PlanarPoint) -> Edge
     requires k_lt_n { k < n }
     requires n_bound { first + n < 2 ^ 64 }
-    ensures { result ≡ Loading.loaded_edge l first n k a }
+    ensures { result ≡ Loading.loaded_edge line first n k a }
 {
     let before = base::choose(k == 0, base::less(n, 1), base::less(k, 1));
     let after = ring::following(n, k);
     Edge {
-        line: l,
+        line,
         previous: first + before,
         next: first + after,
         alive: true,
@@ -58,102 +58,60 @@ pub(crate) fn loaded_edge(l: Line, first: usize, n: usize, k: usize, a: PlanarPo
     }
 }
 
-// One ring of n vertices, into the slots after those in use. The first refusal ends the loop.
+// One ring of n vertices, into the slots after those in use. The first refusal ends it.
 pub(crate) fn load_ring(
     ps: &[f64],
     n: usize,
     back: bool,
     origin: PlanarPoint,
     d: f64,
-    s: Loaded,
-) -> Loaded
-    requires n_bound { s.used + n < 2 ^ 64 }
-    requires rings_bound { s.rings + 1 < 2 ^ 64 }
-    ensures { result ≡ Loading.load_ring ps.now n back origin d s }
+    s: &mut Loaded,
+)
+    requires n_bound { s.old.used + n < 2 ^ 64 }
+    requires rings_bound { s.old.rings + 1 < 2 ^ 64 }
+    ensures { s.new ≡ Loading.load_ring ps.now n back origin d s.old }
 {
-    let mut edges = s.edges;
-    let mut used = s.used;
-    let mut refusal = s.refusal;
-    let first = s.used;
-    let rings = s.rings + 1;
-    let mut k = base::choose(refusal.granted(), 0, n);
-    while k < n {
-        let a = load_vertex(ps, n, back, origin, k);
-        let line = load_line(ps, n, back, origin, k, a);
-        match line {
-            Through::NoLine => {
-                refusal = Refusal::Collapses(d);
-                k = n;
-            }
-            Through::Along(l) => {
-                if used < 128 {
-                    edges[used] = loaded_edge(l, first, n, k, a);
-                    used += 1;
-                    k += 1;
-                } else {
-                    refusal = Refusal::Slots(used + (n - k));
-                    k = n;
-                }
-            }
-        }
+    s.rings += 1;
+    if !s.refusal.granted() {
+        return;
     }
-    Loaded {
-        edges: edges,
-        used: used,
-        rings: rings,
-        refusal: refusal,
+    let first = s.used;
+    for k in 0..n {
+        let a = load_vertex(ps, n, back, origin, k);
+        let Some(line) = load_line(ps, n, back, origin, k, a) else {
+            s.refusal = Refusal::Collapses(d);
+            return;
+        };
+        if s.used >= 128 {
+            s.refusal = Refusal::Slots(s.used + (n - k));
+            return;
+        }
+        s.edges[s.used] = loaded_edge(line, first, n, k, a);
+        s.used += 1;
     }
 }
 
-// The front of a shape's outer ring, on an array of its own. The first refusal ends the loop.
+// The front of a shape's outer ring.
 pub fn load_outer(ps: &[f64], n: usize, back: bool, origin: PlanarPoint, d: f64) -> Loaded
     ensures { result ≡ Loading.load_ring ps.now n back origin d Loading.loaded_nothing }
 {
-    let mut edges = [Edge::UNUSED; 128];
-    let mut used = 0;
-    let mut refusal = Refusal::Granted;
-    let mut k = 0;
-    while k < n {
-        let a = load_vertex(ps, n, back, origin, k);
-        let line = load_line(ps, n, back, origin, k, a);
-        match line {
-            Through::NoLine => {
-                refusal = Refusal::Collapses(d);
-                k = n;
-            }
-            Through::Along(l) => {
-                if used < 128 {
-                    edges[used] = loaded_edge(l, 0, n, k, a);
-                    used += 1;
-                    k += 1;
-                } else {
-                    refusal = Refusal::Slots(used + (n - k));
-                    k = n;
-                }
-            }
-        }
-    }
-    Loaded {
-        edges: edges,
-        used: used,
-        rings: 1,
-        refusal: refusal,
-    }
+    let mut s = Loaded {
+        edges: [Edge::UNUSED; 128],
+        used: 0,
+        rings: 0,
+        refusal: Refusal::Granted,
+    };
+    load_ring(ps, n, back, origin, d, &mut s);
+    s
 }
 
 // One ring more. Numbers that no front has are refused.
-pub fn load_next(ps: &[f64], n: usize, back: bool, origin: PlanarPoint, d: f64, s: Loaded) -> Loaded
-    ensures { result ≡ Next.load_next ps.now n back origin d s }
+pub fn load_next(ps: &[f64], n: usize, back: bool, origin: PlanarPoint, d: f64, s: &mut Loaded)
+    ensures { s.new ≡ Next.load_next ps.now n back origin d s.old }
 {
     if (s.used < 129) & (s.rings < 129) & (n < 129) {
-        load_ring(ps, n, back, origin, d, s)
+        load_ring(ps, n, back, origin, d, s);
     } else {
-        let edges = s.edges;
-        Loaded {
-            edges: edges,
-            used: s.used,
-            rings: s.rings,
-            refusal: Refusal::Shape,
-        }
+        s.refusal = Refusal::Shape;
     }
 }

@@ -1,18 +1,17 @@
 -- The search for a free slot and the walk round a ring, as the code makes them. Assumes nothing.
-use Prim.Native.Nat.{ℕ, ◌+◌, ◌<◌, ◌≤◌}
+use Prim.Native.Nat.{ℕ, ◌+◌, ◌<◌}
 use mathlib.Core.Bool.{Bool, true, false, cond, not, ◌||◌, false≢true}
 use mathlib.Core.List.{List}
 use mathlib.Core.Path.{◌≡◌, refl, sym, ◌∙◌, ap, subst}
 use native.Mathlib.Omega.{arith}
 use borrow.Author.Tests.{lt-ltb}
-use lib.Dec.{ltb, eqb}
+use lib.Dec.{eqb}
 use lib.ListN.{get_or}
-use Rattle.front_lines.proofs.Ends.{slot_read}
 use Rattle.base.specs.Loop.{rounds}
 use Rattle.base.proofs.Laws.{next_round, stays_to}
 use Rattle.front.specs.declared.Edge.{Edge}
 use Rattle.front.specs.declared.Reach.{Reach}
-use Rattle.front.specs.Edges.{edge, blank, unused}
+use Rattle.front.specs.Edges.{edge, blank}
 use Rattle.front.specs.Splitting.{free_step, free, reach_on, reach_step, one_ring}
 use Rattle.front.proofs.EdgeLaws.{edge_in}
 
@@ -30,9 +29,9 @@ module _ (f : List Edge) (k : ℕ) (l : k < 128) (so_far : rounds (free_step f) 
   unfolding free free_step
   free_found h = stays_to (free_step f) 128 k (k + 1) 128 (omega arith) (one_slot ∙ ap (λ (b : Bool). cond b 128 k) h) (λ m. rw (lt-ltb k 128 l) refl)
 
-pub free_all : (f : List Edge) (k : ℕ) → rounds (free_step f) k 128 ≡ 128 → k ≡ 128 → k ≡ free f
+pub free_all : (f : List Edge) (k : ℕ) → rounds (free_step f) k 128 ≡ 128 → k ≡ 128 → 128 ≡ free f
 unfolding free
-free_all f k so_far e = e ∙ sym so_far ∙ ap (λ (m : ℕ). rounds (free_step f) m 128) e
+free_all f k so_far e = sym so_far ∙ ap (λ (m : ℕ). rounds (free_step f) m 128) e
 
 -- ---- the walk from a has come to `at`, and from there to `next`
 
@@ -67,7 +66,3 @@ module _ (f : List Edge) (a b at k next : ℕ) (so_far : rounds (reach_step f a 
 pub reach_all : (f : List Edge) (a b at k : ℕ) → rounds (reach_step f a b) k (reach_at a false false) ≡ reach_at at false false → k ≡ 128 → one_ring f a b ≡ false
 unfolding one_ring
 reach_all f a b at k so_far e = ap (λ (r : Reach). r.found) (subst (λ (m : ℕ). rounds (reach_step f a b) m (reach_at a false false) ≡ reach_at at false false) e so_far)
-
--- the link that the code reads at `at`: a slot j of the front, or the unused edge
-pub read_next : (f : List Edge) (at j : ℕ) (e : Edge) → j ≡ cond (ltb at 128) at 0 → e ≡ cond (ltb at 128) (get_or f j blank) unused → e.next ≡ (edge f at).next
-read_next f at j e p q = ap (λ (x : Edge). x.next) (slot_read f at j e p q)

@@ -9,8 +9,8 @@ use lib.Ieee.{Float}
 use Rattle.error.specs.declared.Refusal.TheVariants.{Granted, Slots, Splits}
 use Rattle.plane.specs.declared.PlanarPoint.{PlanarPoint}
 use Rattle.front.specs.declared.Edge.{Edge}
-use Rattle.front.specs.declared.Vertex.{Vertex}
-use Rattle.front.specs.declared.Vertex.TheVariants.{NoVertex, Moving}
+use Rattle.std.specs.Prelude.{Option, None, Some}
+use Rattle.front.specs.declared.Moving.{Moving}
 use Rattle.front.specs.declared.Sweep.{Sweep}
 use Rattle.front.specs.Edges.{edge, set_next, set_previous, set_start, vertex}
 use Rattle.front.specs.Splitting.{copy_of, cut, split_linked, free, one_ring}
@@ -50,13 +50,13 @@ module _ (f : List Edge) (v e : ℕ) (p : PlanarPoint) (t : Float) where
     unfolding split_into
     split_full r l h = rw (le-ltb copy 128 l, h) refl
 
-module _ (d : Float) (f : List Edge) (travelled : Float) (v e : ℕ) (t : Float) (x : Vertex) (r : Sweep) (is : x ≡ vertex f v t) where
-  pub split_lost : x ≡ NoVertex → r ≡ sweep_refused (begun f travelled) (Splits d) → r ≡ split d (begun f travelled) f v e t
+module _ (d : Float) (f : List Edge) (travelled : Float) (v e : ℕ) (t : Float) (x : Option Moving) (r : Sweep) (is : x ≡ vertex f v t) where
+  pub split_lost : x ≡ None → r ≡ sweep_refused (begun f travelled) (Splits d) → r ≡ split d (begun f travelled) f v e t
   unfolding split split_at
   split_lost a b = rw (b, ← is, a) refl
 
   pub split_is :
-      (p w : PlanarPoint) (b : Bool) (copy : ℕ) → x ≡ Moving p w → b ≡ one_ring f v e → copy ≡ free f →
-      r ≡ split_into (begun f travelled) f v e p t b copy → r ≡ split d (begun f travelled) f v e t
+      (m : Moving) (b : Bool) (copy : ℕ) → x ≡ Some m → b ≡ one_ring f v e → copy ≡ free f →
+      r ≡ split_into (begun f travelled) f v e m.at t b copy → r ≡ split d (begun f travelled) f v e t
   unfolding split split_at split_of
-  split_is p w b copy a h i j = rw (j, i, h, ← is, a) refl
+  split_is m b copy a h i j = rw (j, i, h, ← is, a) refl

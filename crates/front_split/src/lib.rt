@@ -1,40 +1,35 @@
 // The split of a front: the vertex that runs into an edge cuts it in two, with a copy of the edge in a free slot.
 #![tactic(auto)]
 
-ghost use Rattle.std.specs.Prelude.{◌≡◌, set};
+ghost use Rattle.std.specs.Prelude.{◌≡◌};
 ghost use Rattle.front.specs.Splitting;
 ghost use Rattle.front.specs.Sweeps;
 ghost use Rattle.front_split.specs.Begun;
 
 use error::Refusal;
-use front::{Edge, Sweep, Vertex};
+use front::{Edge, Sweep};
 use plane::PlanarPoint;
 
 // The first slot that is not alive, and 128 where there is none.
-pub(crate) fn free(edges: [Edge; 128]) -> usize
-    ensures { result ≡ Splitting.free edges }
+// Stays: `Splitting.free` fixes 128, by which `split_into` knows a full front.
+pub(crate) fn free(edges: &[Edge; 128]) -> usize
+    ensures { result ≡ Splitting.free edges.now }
 {
-    let mut k = 0;
-    while k < 128 {
-        let e = edges[k];
-        if !e.alive {
+    for k in 0..128 {
+        if !edges[k].alive {
             return k;
         }
-        k += 1;
     }
-    k
+    128
 }
 
 // Whether two edges are in one ring: a walk from the first passes the second before it comes round.
-pub(crate) fn one_ring(edges: [Edge; 128], a: usize, b: usize) -> bool
-    ensures { result ≡ Splitting.one_ring edges a b }
+pub(crate) fn one_ring(edges: &[Edge; 128], a: usize, b: usize) -> bool
+    ensures { result ≡ Splitting.one_ring edges.now a b }
 {
     let mut at = a;
-    let mut k = 0usize;
-    while k < 128 {
-        k += 1;
-        let e = front_lines::edge_or(at < 128, edges[front_edges::within(at)]);
-        at = e.next;
+    for _ in 0..128usize {
+        at = front_lines::edge_at(edges, at).next;
         if (at == a) | (at == b) {
             return at != a;
         }
@@ -46,36 +41,26 @@ pub(crate) fn one_ring(edges: [Edge; 128], a: usize, b: usize) -> bool
 pub(crate) fn copy_of(hit: Edge, before: usize, p: PlanarPoint, t: f64) -> Edge
     ensures { result ≡ Splitting.copy_of hit before p t }
 {
-    let mut copy = hit;
-    copy.previous = before;
-    copy.alive = true;
-    copy.start = p;
-    copy.since = t;
-    copy
-}
-
-// The front with an edge in a slot; a store out of it is left out.
-pub(crate) fn set_edge(edges: [Edge; 128], k: usize, e: Edge) -> [Edge; 128]
-    ensures { result ≡ set edges k e }
-{
-    let mut f = edges;
-    if k < 128 {
-        f[k] = e;
+    Edge {
+        previous: before,
+        alive: true,
+        start: p,
+        since: t,
+        ..hit
     }
-    f
 }
 
 // The vertex follows the edge that it hits.
-pub(crate) fn cut(edges: [Edge; 128], v: usize, e: usize, p: PlanarPoint, t: f64) -> [Edge; 128]
-    ensures { result ≡ Splitting.cut edges v e p t }
+pub(crate) fn cut(edges: &mut [Edge; 128], v: usize, e: usize, p: PlanarPoint, t: f64)
+    ensures { edges.new ≡ Splitting.cut edges.old v e p t }
 {
-    let linked = front_edges::set_previous(edges, v, e);
-    front_edges::set_start(linked, v, p, t)
+    front_edges::set_previous(edges, v, e);
+    front_edges::set_start(edges, v, p, t);
 }
 
 // One ring keeps the edge `hit`, at e, and runs on to the vertex; the other takes the copy after `before`, the edge before the vertex.
 pub(crate) fn split_linked(
-    edges: [Edge; 128],
+    edges: &mut [Edge; 128],
     v: usize,
     e: usize,
     copy: usize,
@@ -83,15 +68,14 @@ pub(crate) fn split_linked(
     hit: Edge,
     p: PlanarPoint,
     t: f64,
-) -> [Edge; 128]
-    ensures { result ≡ Splitting.split_linked edges v e copy before hit p t }
+)
+    ensures { edges.new ≡ Splitting.split_linked edges.old v e copy before hit p t }
 {
-    let after = hit.next;
-    let taken = set_edge(edges, copy, copy_of(hit, before, p, t));
-    let led = front_edges::set_next(taken, before, copy);
-    let closed = front_edges::set_previous(led, after, copy);
-    let run = front_edges::set_next(closed, e, v);
-    cut(run, v, e, p, t)
+    front_lines::set_at(edges, copy, copy_of(hit, before, p, t));
+    front_edges::set_next(edges, before, copy);
+    front_edges::set_previous(edges, hit.next, copy);
+    front_edges::set_next(edges, e, v);
+    cut(edges, v, e, p, t);
 }
 
 // A front with nothing counted yet that a refusal ends.
@@ -126,7 +110,7 @@ pub(crate) fn parted(edges: [Edge; 128], t: f64, together: bool) -> Sweep
 
 // A full front of 128 slots cannot split.
 pub(crate) fn split_into(
-    edges: [Edge; 128],
+    mut edges: [Edge; 128],
     travelled: f64,
     v: usize,
     e: usize,
@@ -138,10 +122,10 @@ pub(crate) fn split_into(
     ensures { result ≡ Sweeps.split_into (Begun.begun edges travelled) edges v e p t together copy }
 {
     if copy < 128 {
-        let at = front_lines::edge_or(v < 128, edges[front_edges::within(v)]);
-        let hit = front_lines::edge_or(e < 128, edges[front_edges::within(e)]);
-        let f = split_linked(edges, v, e, copy, at.previous, hit, p, t);
-        parted(f, t, together)
+        let at = front_lines::edge_at(&edges, v);
+        let hit = front_lines::edge_at(&edges, e);
+        split_linked(&mut edges, v, e, copy, at.previous, hit, p, t);
+        parted(edges, t, together)
     } else {
         refused(edges, travelled, Refusal::Slots(129))
     }
@@ -151,12 +135,10 @@ pub(crate) fn split_into(
 pub fn split(d: f64, edges: [Edge; 128], travelled: f64, v: usize, e: usize, t: f64) -> Sweep
     ensures { result ≡ Sweeps.split d (Begun.begun edges travelled) edges v e t }
 {
-    let vertex = front_edges::vertex(edges, v, t);
-    match vertex {
-        Vertex::NoVertex => refused(edges, travelled, Refusal::Splits(d)),
-        Vertex::Moving(p, _) => {
-            let together = one_ring(edges, v, e);
-            split_into(edges, travelled, v, e, p, t, together, free(edges))
-        }
-    }
+    let Some(vertex) = front_edges::vertex(&edges, v, t) else {
+        return refused(edges, travelled, Refusal::Splits(d));
+    };
+    let together = one_ring(&edges, v, e);
+    let copy = free(&edges);
+    split_into(edges, travelled, v, e, vertex.at, t, together, copy)
 }

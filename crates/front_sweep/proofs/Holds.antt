@@ -18,9 +18,10 @@ use Rattle.front.specs.declared.Front.{Front}
 use Rattle.front.specs.declared.Sweep.{Sweep}
 use Rattle.front.specs.declared.Tidy.{Tidy}
 use Rattle.front.specs.declared.Tidy.TheVariants.{Settled, SmallRing, Straight, Spike, Empty}
-use Rattle.front.specs.declared.Vertex.{Vertex}
-use Rattle.front.specs.declared.Vertex.TheVariants.{NoVertex, Moving}
-use Rattle.front.specs.Edges.{edge, altered, stalled, anchor_at, anchor, then_remove, collapse, vertex}
+use Rattle.front.specs.declared.Moving.{Moving}
+use Rattle.std.specs.Prelude.{Option, None, Some}
+use Rattle.front_edges.proofs.Actions.{collapse_some}
+use Rattle.front.specs.Edges.{edge, set_start, remove, altered, stalled, anchor_at, anchor, then_remove, collapse, vertex}
 use Rattle.front.specs.declared.Event.{Event}
 use Rattle.front.specs.declared.Event.TheVariants.{Never}
 use Rattle.front.specs.NextEvent.{next_event}
@@ -50,16 +51,16 @@ stays f t c v j s e = rw (← e) refl
 
 -- ---- whatever tidying takes out, the front is changed
 
-removes_changed : (f : List Edge) (k n : ℕ) (t : Float) (x : Vertex) → (then_remove k (anchor_at f n t x)).changed ≡ true
+removes_changed : (f : List Edge) (k n : ℕ) (t : Float) (x : Option Moving) → (then_remove k (anchor_at f n t x)).changed ≡ true
 unfolding then_remove anchor_at altered stalled
-removes_changed f k n t NoVertex = refl
-removes_changed f k n t (Moving p w) = refl
+removes_changed f k n t None = refl
+removes_changed f k n t (Some m) = refl
 
-spike_changed : (f : List Edge) (slot before next after : ℕ) (t : Float) (x y : Vertex) → y ≡ vertex f after t → (spike_from f slot before next after t x).changed ≡ true
+spike_changed : (f : List Edge) (slot before next after : ℕ) (t : Float) (x y : Option Moving) → y ≡ vertex f after t → (spike_from f slot before next after t x).changed ≡ true
 unfolding spike_from spike_to drop_both altered stalled
-spike_changed f slot before next after t NoVertex y e = refl
-spike_changed f slot before next after t (Moving p w) NoVertex e = rw (← e) refl
-spike_changed f slot before next after t (Moving p w) (Moving q z) e = rw (← e) refl
+spike_changed f slot before next after t None y e = refl
+spike_changed f slot before next after t (Some m) None e = rw (← e) refl
+spike_changed f slot before next after t (Some m) (Some n) e = rw (← e) refl
 
 changes : (f : List Edge) (t : Float) (x : Tidy) → settled x ≡ false → (tidy_by f t x).changed ≡ true
 unfolding settled tidy_by altered drop_straight anchor drop_spike collapse
@@ -269,9 +270,10 @@ pub record Held (d : Float) (f₀ : List Edge) (t₀ : Float) (f : List Edge) (t
 
 module _ {d : Float} {f₀ : List Edge} {t₀ : Float} {f : List Edge} {t : Float} {c v j k m : ℕ} where
   pub held :
-      {x : Tidy} {b : Bool} {e : Event} {a : Act} → Walked d f₀ t₀ f t c v j k m → k < 387 → x ≡ cond (ltb m 129) (find_tidy f t) Settled → b ≡ settled x →
+      {y x : Tidy} {b : Bool} {e : Event} {a : Act} → Walked d f₀ t₀ f t c v j k m → k < 387 → y ≡ find_tidy f t → x ≡ cond (ltb m 129) y Settled → b ≡ settled x →
       e ≡ cond b (next_event f t) Never → a ≡ act_of t x (plan_of d t e) → Held d f₀ t₀ f t c v j k m a
-  held {x = x} {b = b} {e = e} {a = a} w l h u q g = record { holds = stage_holds d f₀ t₀ f t c v j k m w l x b e a h u q g }
+  held {x = x} {b = b} {e = e} {a = a} w l i h u q g =
+      record { holds = stage_holds d f₀ t₀ f t c v j k m w l x b e a (h ∙ ap (λ (z : Tidy). cond (ltb m 129) z Settled) i) u q g }
 
   module _ {a : Act} (h : Held d f₀ t₀ f t c v j k m a) where
     pub held_stop : a ≡ Stop → Gone d f₀ t₀ t c v j (Splits d)
@@ -308,6 +310,16 @@ module _ {d : Float} {f₀ : List Edge} {t₀ : Float} {f : List Edge} {t : Floa
 -- after a collapse: it counts as one, and ends the stage, where an event asked for it; else it is one step more of tidying
 pub record Shrunk (d : Float) (f₀ : List Edge) (t₀ : Float) (f : List Edge) (t : Float) (c v j k m : ℕ) (b : Bool) : Type 0 where
   pub walked : Walked d f₀ t₀ f t (c + cond b 1 0) v j (k + cond b 1 0) (cond b 0 (m + 1))
+
+-- as the code comes by it: the start of the next edge, and the front without the edge
+pub shrunk :
+    {d : Float} {f₀ : List Edge} {t₀ : Float} {f : List Edge} {t : Float} {c v j k m : ℕ} {a : Act} {at : ℕ} {u : Float} {event following : Bool} {own e : Edge} {slot : ℕ}
+    {x : Option Moving} {w : Moving} {g r : List Edge} → Held d f₀ t₀ f t c v j k m a → a ≡ Shrink at u event following → own ≡ edge f at →
+    slot ≡ cond following own.next at → e ≡ edge f slot → x ≡ vertex f e.next u → x ≡ Some w → g ≡ set_start f e.next w.at u → r ≡ remove g slot →
+    Shrunk d f₀ t₀ r u c v j k m event
+unfolding altered
+shrunk h q own_is slot_is e_is x_is some g_is r_is =
+    record { walked = (held_shrink h q own_is slot_is (collapse_some _ _ _ _ _ (ap (λ (z : Edge). z.next) e_is) x_is _ _ _ some g_is r_is)).goes refl }
 
 module _ {d : Float} {f₀ : List Edge} {t₀ : Float} {f : List Edge} {t : Float} {c v j k m : ℕ} {b : Bool} (s : Shrunk d f₀ t₀ f t c v j k m b) where
   pub counted : {x y z : ℕ} → x ≡ cond b 1 0 → y ≡ cond b 0 (m + 1) → z ≡ cond b 1 0 → Walked d f₀ t₀ f t (c + x) v j (k + z) y

@@ -1,4 +1,3 @@
 pub mod Stages
 pub mod Loop
 pub mod Holds
-pub mod Sought

@@ -16,8 +16,8 @@ use Rattle.front.specs.declared.Event.{Event}
 use Rattle.front.specs.declared.Event.TheVariants.{Stalled, Never, Collapse, Split}
 use Rattle.front.specs.declared.Front.{Front}
 use Rattle.front.specs.declared.Sweep.{Sweep}
-use Rattle.front.specs.declared.Vertex.{Vertex}
-use Rattle.front.specs.declared.Vertex.TheVariants.{NoVertex, Moving}
+use Rattle.front.specs.declared.Moving.{Moving}
+use Rattle.std.specs.Prelude.{Option, None, Some}
 use Rattle.front.specs.Edges.{vertex, collapse}
 use Rattle.front.specs.NextEvent.{next_event}
 use Rattle.front.specs.Splitting.{free, one_ring}
@@ -110,10 +110,10 @@ module _ (d : Float) (s : Sweep) (f : List Edge) where
       either b _ _ _ _ (record { same = rw add-zero refl; divides = omega arith; joins = omega arith })
       (record { same = rw add-zero refl; divides = omega arith; joins = omega arith })
 
-  splits_at : (v e : ℕ) (t : Float) (x : Vertex) → Parted s (split_at d s f v e t x) (split_at d z f v e t x)
+  splits_at : (v e : ℕ) (t : Float) (x : Option Moving) → Parted s (split_at d s f v e t x) (split_at d z f v e t x)
   unfolding split_at split_of split_into granted number values
-  splits_at v e t NoVertex = refuses (Splits d) refl
-  splits_at v e t (Moving p w) = either (ltb (free f) 128) _ _ _ _ (counts t (one_ring f v e) _) (refuses (Slots 129) refl)
+  splits_at v e t None = refuses (Splits d) refl
+  splits_at v e t (Some m) = either (ltb (free f) 128) _ _ _ _ (counts t (one_ring f v e) _) (refuses (Slots 129) refl)
 
   pub splits : (v e : ℕ) (t : Float) → Parted s (split d s f v e t) (split d (begun f s.travelled) f v e t)
   unfolding split

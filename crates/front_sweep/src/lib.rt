@@ -1,7 +1,7 @@
 // The main loop of an offset on one array: a front is tidied and its edges collapse where they are, and it is copied only where it splits.
 #![tactic(auto)]
 
-ghost use Rattle.std.specs.Prelude.{◌≡◌, cond, length};
+ghost use Rattle.std.specs.Prelude.{◌≡◌, cond};
 ghost use Rattle.std.specs.Float.Ieee.{le};
 ghost use Rattle.front.specs.Sweeps;
 ghost use Rattle.front_sweep.specs.Planning;
@@ -9,7 +9,7 @@ ghost use Rattle.front_sweep.specs.declared.Plan.TheVariants.{End};
 ghost use Rattle.front_sweep.specs.Acts;
 
 use error::Refusal;
-use front::{Edge, Event, Loaded, Sweep, Tidy, Vertex};
+use front::{Edge, Event, Loaded, Sweep, Tidy};
 
 // What is planned for a tidied front: it is refused, or has come to the distance, or an event is taken at an offset.
 #[derive(Clone, Copy)]
@@ -30,13 +30,6 @@ pub enum Act {
     Cut(usize, usize, f64),
     DropRing(usize),
     DropSpike(usize),
-}
-
-// How many slots a front has. Nothing is copied for it.
-pub(crate) fn slots(edges: [Edge; 128]) -> usize
-    ensures { (result ≡ 128) × (length edges ≡ 128) }
-{
-    128
 }
 
 // An event that falls on the distance, or beyond it, ends the walk before it.
@@ -118,40 +111,17 @@ pub fn advance(d: f64, l: Loaded) -> Sweep
     let mut collapses = 0usize;
     let mut divides = 0usize;
     let mut joins = 0usize;
-    let start = l.refusal;
-    if !start.granted() {
-        return refused(travelled, collapses, divides, joins, start);
+    if !l.refusal.granted() {
+        return refused(travelled, collapses, divides, joins, l.refusal);
     }
     let mut k = 0usize;
     let mut m = 0usize;
+    // Stays: no plainer, since a step of tidying is none of the 387 stages
     while k < 387 {
-        // what it ensures is used: a store out of the front is left out
-        let room = slots(edges);
-        // the first live slot at which something is to be taken out, and what; tidying ends after 129 steps
-        let mut found = Tidy::Settled;
-        let mut i = base::choose(m < 129, 0, 128);
-        while i < 128 {
-            let slot = i;
-            i += 1;
-            let e = edges[slot];
-            if e.alive {
-                let previous = e.previous;
-                let next = e.next;
-                let before = front_lines::edge_or(
-                    previous < 128,
-                    edges[front_edges::within(previous)],
-                );
-                let after = front_lines::edge_or(next < 128, edges[front_edges::within(next)]);
-                let back = after.previous;
-                let beside = front_lines::edge_or(back < 128, edges[front_edges::within(back)]);
-                let here = front_tidy::tidy_between(slot, travelled, before, e, beside, after);
-                if !front_tidy::settled(here) {
-                    found = here;
-                    i = 128;
-                }
-            }
-        }
-        let event = front_events::next_event(front_tidy::settled(found), edges, travelled);
+        // tidying ends after 129 steps
+        let first = front_tidy::find_tidy(&edges, travelled);
+        let found = base::choose(m < 129, first, Tidy::Settled);
+        let event = front_events::next_event(front_tidy::settled(found), &edges, travelled);
         let act = act_of(d, travelled, found, event);
         match act {
             Act::Stop => {
@@ -169,52 +139,24 @@ pub fn advance(d: f64, l: Loaded) -> Sweep
                 };
             }
             Act::Shrink(at, t, event, following) => {
-                let a = front_lines::edge_or(at < 128, edges[front_edges::within(at)]);
-                let slot = base::choose(following, a.next, at);
-                let e = front_lines::edge_or(slot < 128, edges[front_edges::within(slot)]);
-                let next = e.next;
-                let n = front_lines::edge_or(next < 128, edges[front_edges::within(next)]);
-                let back = n.previous;
-                let b = front_lines::edge_or(back < 128, edges[front_edges::within(back)]);
-                let v = front_lines::vertex_by(front_lines::edge_line(b), n, t);
-                match v {
-                    Vertex::NoVertex => {
-                        return refused(travelled, collapses, divides, joins, Refusal::Splits(d));
-                    }
-                    Vertex::Moving(p, _) => {
-                        let h = front_edges::within(next);
-                        let anchored = edges[h];
-                        edges[h] = front_edges::start_if(next < 128, anchored, p, t);
-                        let gone = front_lines::edge_or(
-                            slot < 128,
-                            edges[front_edges::within(slot)],
-                        );
-                        let before = gone.previous;
-                        let after = gone.next;
-                        let i = front_edges::within(before);
-                        let first = edges[i];
-                        edges[i] = front_edges::next_if(before < 128, first, after);
-                        let j = front_edges::within(after);
-                        let last = edges[j];
-                        edges[j] = front_edges::previous_if(after < 128, last, before);
-                        let o = front_edges::within(slot);
-                        let own = edges[o];
-                        edges[o] = front_edges::dead_if(slot < 128, own);
-                        travelled = t;
-                        collapses += base::choose(event, 1, 0);
-                        m = base::choose(event, 0, m + 1);
-                        k += base::choose(event, 1, 0);
-                    }
-                }
+                let slot = base::choose(following, front_lines::edge_at(&edges, at).next, at);
+                let next = front_lines::edge_at(&edges, slot).next;
+                let Some(vertex) = front_edges::vertex(&edges, next, t) else {
+                    return refused(travelled, collapses, divides, joins, Refusal::Splits(d));
+                };
+                front_edges::set_start(&mut edges, next, vertex.at, t);
+                front_edges::remove(&mut edges, slot);
+                travelled = t;
+                collapses += base::choose(event, 1, 0);
+                m = base::choose(event, 0, m + 1);
+                k += base::choose(event, 1, 0);
             }
             Act::Cut(v, w, t) => {
                 let done = front_split::split(d, edges, travelled, v, w, t);
-                let refusal = done.refusal;
-                if !refusal.granted() {
-                    return refused(travelled, collapses, divides, joins, refusal);
+                if !done.refusal.granted() {
+                    return refused(travelled, collapses, divides, joins, done.refusal);
                 }
-                let changed = done.edges;
-                edges = changed;
+                edges = done.edges;
                 travelled = done.travelled;
                 divides += done.divides;
                 joins += done.joins;
@@ -222,8 +164,7 @@ pub fn advance(d: f64, l: Loaded) -> Sweep
                 k += 1;
             }
             Act::DropRing(slot) => {
-                let changed = front_tidy::drop_ring(edges, slot);
-                edges = changed;
+                front_tidy::drop_ring(&mut edges, slot);
                 m += 1;
             }
             Act::DropSpike(slot) => {
@@ -231,8 +172,7 @@ pub fn advance(d: f64, l: Loaded) -> Sweep
                 if done.stalled {
                     return refused(travelled, collapses, divides, joins, Refusal::Splits(d));
                 }
-                let changed = done.edges;
-                edges = changed;
+                edges = done.edges;
                 m += 1;
             }
         }

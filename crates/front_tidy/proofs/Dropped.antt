@@ -12,11 +12,10 @@ use Rattle.front.specs.declared.Line.{Line}
 use lib.Ieee.{Float}
 use Rattle.plane.specs.declared.PlanarPoint.{PlanarPoint}
 use Rattle.front.specs.declared.Front.{Front}
-use Rattle.front.specs.declared.Place.{Place}
-use Rattle.front.specs.declared.Place.TheVariants.{Nowhere, There}
+use Rattle.std.specs.Prelude.{Option, None, Some}
+use Rattle.std.proofs.Common.{unwrap_or}
 use Rattle.front.specs.declared.Tidy.TheVariants.{Spike}
-use Rattle.front.specs.declared.Vertex.{Vertex}
-use Rattle.front.specs.declared.Vertex.TheVariants.{NoVertex, Moving}
+use Rattle.front.specs.declared.Moving.{Moving}
 use Rattle.front.specs.Lines.{meeting}
 use Rattle.front.specs.Edges.{edge, edge_line, kill, remove, set_start, altered, stalled, vertex}
 use Rattle.front.specs.Tidying.{Drop, drop_on, drop_step, drop_ring, midpoint, meeting_or, drop_both, spike_to, spike_from, drop_spike, tidy_by}
@@ -56,35 +55,32 @@ pub both_is :
 unfolding drop_both
 both_is f g h m slot next after start t r a b c d = rw (d, c, b, a) refl
 
-pub meets_not : (p q r : PlanarPoint) (x : Place) → x ≡ Nowhere → r ≡ midpoint p q → r ≡ meeting_or p q x
+pub meets : (p q m : PlanarPoint) (x : Option PlanarPoint) → m ≡ midpoint p q → unwrap_or x m ≡ meeting_or p q x
 unfolding meeting_or
-meets_not p q r x h i = rw (h, i) refl
-
-pub meets : (p q r : PlanarPoint) (x : Place) → x ≡ There r → r ≡ meeting_or p q x
-unfolding meeting_or
-meets p q r x h = rw h refl
+meets p q m None h = h
+meets p q m (Some r) h = refl
 
 pub to_none :
-    (f : List Edge) (slot before next after : ℕ) (t : Float) (p : PlanarPoint) (x : Vertex) (r : Front) → x ≡ NoVertex → r ≡ stalled f →
+    (f : List Edge) (slot before next after : ℕ) (t : Float) (p : PlanarPoint) (x : Option Moving) (r : Front) → x ≡ None → r ≡ stalled f →
     r ≡ spike_to f slot before next after t p x
 unfolding spike_to
 to_none f slot before next after t p x r h i = rw (h, i) refl
 
 pub to_some :
-    (f : List Edge) (slot before next after : ℕ) (t : Float) (p q w : PlanarPoint) (x : Vertex) (a b : Edge) (k l : Line) (y : Place) (start : PlanarPoint)
-    (r : Front) → x ≡ Moving q w → a ≡ edge f before → b ≡ edge f after → k ≡ edge_line a → l ≡ edge_line b → y ≡ meeting k l t → start ≡ meeting_or p q y →
-    r ≡ drop_both f slot next after start t → r ≡ spike_to f slot before next after t p x
+    (f : List Edge) (slot before next after : ℕ) (t : Float) (p : PlanarPoint) (m : Moving) (x : Option Moving) (a b : Edge) (k l : Line) (y : Option PlanarPoint)
+    (start : PlanarPoint) (r : Front) → x ≡ Some m → a ≡ edge f before → b ≡ edge f after → k ≡ edge_line a → l ≡ edge_line b → y ≡ meeting k l t →
+    start ≡ meeting_or p m.at y → r ≡ drop_both f slot next after start t → r ≡ spike_to f slot before next after t p x
 unfolding spike_to
-to_some f slot before next after t p q w x a b k l y start r h a-is b_is k_is l_is y_is start_is r-is =
+to_some f slot before next after t p m x a b k l y start r h a-is b_is k_is l_is y_is start_is r-is =
     rw (h, r-is, start_is, y_is, l_is, k_is, b_is, a-is) refl
 
 pub from_none :
-    (f : List Edge) (slot : ℕ) (t : Float) (x : Vertex) (r : Front) → x ≡ vertex f slot t → x ≡ NoVertex → r ≡ stalled f → r ≡ tidy_by f t (Spike slot)
+    (f : List Edge) (slot : ℕ) (t : Float) (x : Option Moving) (r : Front) → x ≡ vertex f slot t → x ≡ None → r ≡ stalled f → r ≡ tidy_by f t (Spike slot)
 unfolding tidy_by drop_spike spike_from
 from_none f slot t x r h i j = rw (← h, i, j) refl
 
 pub from_some :
-    (f : List Edge) (slot : ℕ) (t : Float) (e n : Edge) (x : Vertex) (p v : PlanarPoint) (y : Vertex) (r : Front) → e ≡ edge f slot → n ≡ edge f e.next →
-    x ≡ vertex f slot t → x ≡ Moving p v → y ≡ vertex f n.next t → r ≡ spike_to f slot e.previous e.next n.next t p y → r ≡ tidy_by f t (Spike slot)
+    (f : List Edge) (slot : ℕ) (t : Float) (e n : Edge) (x : Option Moving) (m : Moving) (y : Option Moving) (r : Front) → e ≡ edge f slot → n ≡ edge f e.next →
+    x ≡ vertex f slot t → x ≡ Some m → y ≡ vertex f n.next t → r ≡ spike_to f slot e.previous e.next n.next t m.at y → r ≡ tidy_by f t (Spike slot)
 unfolding tidy_by drop_spike spike_from
-from_some f slot t e n x p v y r a b h i j k = rw (← a, ← b, ← h, i, ← j) k
+from_some f slot t e n x m y r a b h i j k = rw (← a, ← b, ← h, i, ← j) k

@@ -10,13 +10,14 @@ use Rattle.base.proofs.Laws.{next_round, stays_to}
 use Rattle.front.specs.declared.Edge.{Edge}
 use Rattle.front.specs.declared.Tidy.{Tidy}
 use Rattle.front.specs.declared.Tidy.TheVariants.{Settled, SmallRing, Straight, Spike, Empty}
-use Rattle.front.specs.declared.Vertex.{Vertex}
+use Rattle.front.specs.declared.Moving.{Moving}
+use Rattle.std.specs.Prelude.{Option}
 use Rattle.front.specs.declared.Length.{Length}
 use Rattle.plane.specs.declared.PlanarPoint.{PlanarPoint}
 use Rattle.front.specs.Lines.{direction, velocity}
 use Rattle.front.specs.Edges.{edge, edge_line, vertex_by, vertex_of, vertex}
 use Rattle.front.specs.Tidying.{opposed, same_way, tidy_length, tidy_corner, tidy_edge, tidy_at, unless_found, find_step, find_tidy}
-use Rattle.front_lines.specs.Moving.{length_between}
+use Rattle.front_lines.specs.Between.{length_between}
 use Rattle.front_lines.proofs.Ends.{length_is}
 use Rattle.front_tidy.specs.Findings.{corner_between, tidy_between, settled}
 use Rattle.front_tidy.proofs.Small.{few_is}
@@ -37,6 +38,15 @@ found_stays (SmallRing k) y h = refl
 found_stays (Straight k) y h = refl
 found_stays (Spike k) y h = refl
 found_stays (Empty k) y h = refl
+
+-- what is not `Settled` is a finding
+pub not_settled : (x : Tidy) → (x ≡ Settled → ⊥) → settled x ≡ false
+unfolding settled
+not_settled Settled h = absurd (h refl)
+not_settled (SmallRing k) h = refl
+not_settled (Straight k) h = refl
+not_settled (Spike k) h = refl
+not_settled (Empty k) h = refl
 
 pub settled_is : (x : Tidy) → settled x ≡ true → x ≡ Settled
 unfolding settled
@@ -89,7 +99,7 @@ module _ (slot : ℕ) (t : Float) (before e beside after : Edge) (u w : PlanarPo
     corner_straight i = rw (← u_is, ← w_is, ← p_is, h, ← q_is, i) refl
 
     pub corner_on :
-        (from to : Vertex) (long : Length) (r : Tidy) → q ≡ false → from ≡ vertex_by e t (velocity (edge_line before) (edge_line e)) →
+        (from to : Option Moving) (long : Option Length) (r : Tidy) → q ≡ false → from ≡ vertex_by e t (velocity (edge_line before) (edge_line e)) →
         to ≡ vertex_by after t (velocity (edge_line beside) (edge_line after)) → long ≡ length_between e from to → r ≡ tidy_length slot t long →
         r ≡ corner_between slot t before e beside after
     unfolding corner_between

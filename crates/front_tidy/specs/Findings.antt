@@ -6,7 +6,7 @@ use Rattle.front.specs.declared.Tidy.TheVariants.{Settled, SmallRing, Straight, 
 use Rattle.front.specs.Lines.{direction, velocity}
 use Rattle.front.specs.Edges.{edge_line, vertex_by}
 use Rattle.front.specs.Tidying.{opposed, same_way, tidy_length}
-use Rattle.front_lines.specs.Moving.{length_between}
+use Rattle.front_lines.specs.Between.{length_between}
 
 -- a ring of fewer than three edges: the edge at the slot, or its next, leads to the slot
 unfoldable pub short : ℕ → Edge → Edge → Bool

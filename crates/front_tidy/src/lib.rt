@@ -6,7 +6,7 @@ ghost use Rattle.front.specs.Tidying;
 ghost use Rattle.front.specs.declared.Tidy.TheVariants.{Spike};
 ghost use Rattle.front_tidy.specs.Findings;
 
-use front::{Edge, Front, Length, Place, Tidy, Vertex};
+use front::{Edge, Front, Length, Moving, Tidy};
 use plane::PlanarPoint;
 
 // An edge of no length that does not grow.
@@ -36,13 +36,13 @@ pub(crate) fn short(slot: usize, e: Edge, after: Edge) -> bool
     (e.next == slot) | (after.next == slot)
 }
 
-pub(crate) fn tidy_length(slot: usize, t: f64, length: Length) -> Tidy
+pub(crate) fn tidy_length(slot: usize, t: f64, length: Option<Length>) -> Tidy
     ensures { result ≡ Tidying.tidy_length slot t length }
 {
     match length {
-        Length::NoLength => Tidy::Settled,
-        Length::Long(l, rate) => {
-            if empty(t, l, rate) {
+        None => Tidy::Settled,
+        Some(l) => {
+            if empty(t, l.value, l.rate) {
                 Tidy::Empty(slot)
             } else {
                 Tidy::Settled
@@ -77,7 +77,14 @@ pub(crate) fn corner_between(
     tidy_length(slot, t, length)
 }
 
-pub fn tidy_between(slot: usize, t: f64, before: Edge, e: Edge, beside: Edge, after: Edge) -> Tidy
+pub(crate) fn tidy_between(
+    slot: usize,
+    t: f64,
+    before: Edge,
+    e: Edge,
+    beside: Edge,
+    after: Edge,
+) -> Tidy
     ensures { result ≡ Findings.tidy_between slot t before e beside after }
 {
     if short(slot, e, after) {
@@ -91,36 +98,41 @@ pub fn tidy_between(slot: usize, t: f64, before: Edge, e: Edge, beside: Edge, af
 pub fn settled(found: Tidy) -> bool
     ensures { result ≡ Findings.settled found }
 {
-    match found {
-        Tidy::Settled => true,
-        Tidy::SmallRing(_) => false,
-        Tidy::Straight(_) => false,
-        Tidy::Spike(_) => false,
-        Tidy::Empty(_) => false,
+    matches!(found, Tidy::Settled)
+}
+
+// The first live slot at which something is to be taken out, and what.
+pub fn find_tidy(edges: &[Edge; 128], t: f64) -> Tidy
+    ensures { result ≡ Tidying.find_tidy edges.now t }
+{
+    for slot in 0..128 {
+        let e = edges[slot];
+        if e.alive {
+            let before = front_lines::edge_at(edges, e.previous);
+            let after = front_lines::edge_at(edges, e.next);
+            let beside = front_lines::edge_at(edges, after.previous);
+            let found = tidy_between(slot, t, before, e, beside, after);
+            if !settled(found) {
+                return found;
+            }
+        }
     }
+    Tidy::Settled
 }
 
 // A ring too small is dropped whole, from its slot on: the walk ends where it comes round or meets a dead edge.
-pub fn drop_ring(edges: [Edge; 128], slot: usize) -> [Edge; 128]
-    ensures { result ≡ Tidying.drop_ring edges slot }
+pub fn drop_ring(edges: &mut [Edge; 128], slot: usize)
+    ensures { edges.new ≡ Tidying.drop_ring edges.old slot }
 {
-    let mut f = edges;
     let mut at = slot;
-    let mut k = 0usize;
-    while k < 128 {
-        k += 1;
-        let i = front_edges::within(at);
-        let own = f[i];
-        let e = front_lines::edge_or(at < 128, own);
-        let next = e.next;
-        f[i] = front_edges::dead_if(at < 128, own);
-        let n = front_lines::edge_or(next < 128, f[front_edges::within(next)]);
-        if (next == slot) | !n.alive {
-            return f;
+    for _ in 0..128usize {
+        let next = front_lines::edge_at(edges, at).next;
+        front_edges::kill(edges, at);
+        if (next == slot) | !front_lines::edge_at(edges, next).alive {
+            return;
         }
         at = next;
     }
-    f
 }
 
 pub(crate) fn midpoint(p: PlanarPoint, q: PlanarPoint) -> PlanarPoint
@@ -132,18 +144,15 @@ pub(crate) fn midpoint(p: PlanarPoint, q: PlanarPoint) -> PlanarPoint
     }
 }
 
-pub(crate) fn meeting_or(p: PlanarPoint, q: PlanarPoint, place: Place) -> PlanarPoint
+pub(crate) fn meeting_or(p: PlanarPoint, q: PlanarPoint, place: Option<PlanarPoint>) -> PlanarPoint
     ensures { result ≡ Tidying.meeting_or p q place }
 {
-    match place {
-        Place::Nowhere => midpoint(p, q),
-        Place::There(r) => r,
-    }
+    place.unwrap_or(midpoint(p, q))
 }
 
 // A spike, or an inlet of no width: both edges go, and the edges on either side, `before` and `after`, meet afresh.
 pub(crate) fn drop_both(
-    edges: [Edge; 128],
+    mut edges: [Edge; 128],
     slot: usize,
     next: usize,
     after: usize,
@@ -152,9 +161,10 @@ pub(crate) fn drop_both(
 ) -> Front
     ensures { result ≡ Tidying.drop_both edges slot next after start t }
 {
-    let one = front_edges::remove(edges, next);
-    let both = front_edges::remove(one, slot);
-    front_edges::altered(front_edges::set_start(both, after, start, t))
+    front_edges::remove(&mut edges, next);
+    front_edges::remove(&mut edges, slot);
+    front_edges::set_start(&mut edges, after, start, t);
+    front_edges::altered(edges)
 }
 
 pub(crate) fn spike_to(
@@ -165,38 +175,28 @@ pub(crate) fn spike_to(
     after: usize,
     t: f64,
     p: PlanarPoint,
-    to: Vertex,
+    to: Option<Moving>,
 ) -> Front
     ensures { result ≡ Tidying.spike_to edges slot before next after t p to }
 {
-    match to {
-        Vertex::NoVertex => front_edges::stalled(edges),
-        Vertex::Moving(q, _) => {
-            let a = front_lines::edge_or(before < 128, edges[front_edges::within(before)]);
-            let b = front_lines::edge_or(after < 128, edges[front_edges::within(after)]);
-            let place = front_lines::meeting(
-                front_lines::edge_line(a),
-                front_lines::edge_line(b),
-                t,
-            );
-            drop_both(edges, slot, next, after, meeting_or(p, q, place), t)
-        }
-    }
+    let Some(to) = to else {
+        return front_edges::stalled(edges);
+    };
+    let a = front_lines::edge_at(&edges, before);
+    let b = front_lines::edge_at(&edges, after);
+    let place = front_lines::meeting(front_lines::edge_line(a), front_lines::edge_line(b), t);
+    drop_both(edges, slot, next, after, meeting_or(p, to.at, place), t)
 }
 
 // The spike at a slot: the edge there and its next.
 pub fn drop_spike(edges: [Edge; 128], slot: usize, t: f64) -> Front
     ensures { result ≡ Tidying.tidy_by edges t (Spike slot) }
 {
-    let e = front_lines::edge_or(slot < 128, edges[front_edges::within(slot)]);
-    let next = e.next;
-    let n = front_lines::edge_or(next < 128, edges[front_edges::within(next)]);
-    let from = front_edges::vertex(edges, slot, t);
-    match from {
-        Vertex::NoVertex => front_edges::stalled(edges),
-        Vertex::Moving(p, _) => {
-            let to = front_edges::vertex(edges, n.next, t);
-            spike_to(edges, slot, e.previous, next, n.next, t, p, to)
-        }
-    }
+    let Some(from) = front_edges::vertex(&edges, slot, t) else {
+        return front_edges::stalled(edges);
+    };
+    let e = front_lines::edge_at(&edges, slot);
+    let after = front_lines::edge_at(&edges, e.next).next;
+    let to = front_edges::vertex(&edges, after, t);
+    spike_to(edges, slot, e.previous, e.next, after, t, from.at, to)
 }

@@ -7,7 +7,7 @@ ghost use Rattle.front.specs.Finished;
 ghost use Rattle.front.specs.Lines;
 ghost use Rattle.front_walk.specs.Placed;
 
-use front::{Edge, Line, Place, Vertex, Walk};
+use front::{Edge, Line, Walk};
 use plane::PlanarPoint;
 
 // A point from the origin of the front, in plane coordinates.
@@ -21,21 +21,18 @@ pub(crate) fn from_origin(p: PlanarPoint, origin: PlanarPoint) -> PlanarPoint
 }
 
 // A point, if it is finite.
-pub(crate) fn finite_place(p: PlanarPoint) -> Place
+pub(crate) fn finite_place(p: PlanarPoint) -> Option<PlanarPoint>
     ensures { result ≡ Placed.finite_place p }
 {
-    front_lines::place_unless(!(math::finite(p.east) & math::finite(p.north)), p)
+    (math::finite(p.east) & math::finite(p.north)).then_some(p)
 }
 
 // Where the start vertex of an edge lies at offset t, given the line of the edge before it.
-pub fn placed(before: Line, e: Edge, t: f64, origin: PlanarPoint) -> Place
+pub fn placed(before: Line, e: Edge, t: f64, origin: PlanarPoint) -> Option<PlanarPoint>
     ensures { result ≡ Placed.placed origin (Edges.vertex_by e t (Lines.velocity before (Edges.edge_line e))) }
 {
-    let vertex = front_lines::vertex_by(before, e, t);
-    match vertex {
-        Vertex::NoVertex => Place::Nowhere,
-        Vertex::Moving(p, _) => finite_place(from_origin(p, origin)),
-    }
+    let vertex = front_lines::vertex_by(before, e, t)?;
+    finite_place(from_origin(vertex.at, origin))
 }
 
 // The ring through the slot `first`: 128 steps at most. A vertex that is lost ends the walk.
@@ -44,59 +41,45 @@ pub fn walk(
     t: f64,
     origin: PlanarPoint,
     first: usize,
-    seen: [bool; 128],
+    mut seen: [bool; 128],
 ) -> Walk
     ensures { result ≡ Finished.walk edges t origin first seen }
 {
-    let mut passed = seen;
     let mut points = [0.0; 256];
     let mut at = first;
-    let mut count = 0;
-    while count < 128 {
-        let slot = base::choose(at < 128, at, 0);
-        let e = front_lines::edge_or(at < 128, edges[slot]);
-        let previous = e.previous;
-        let next = e.next;
-        let b = front_lines::edge_or(
-            previous < 128,
-            edges[base::choose(previous < 128, previous, 0)],
-        );
-        let place = placed(front_lines::edge_line(b), e, t, origin);
-        match place {
-            Place::Nowhere => {
-                return Walk {
-                    at: at,
-                    seen: passed,
-                    points: points,
-                    count: count,
-                    closed: false,
-                    lost: true,
-                };
-            }
-            Place::There(p) => {
-                passed[slot] = passed[slot] | (at < 128);
-                points[2 * count] = p.east;
-                points[2 * count + 1] = p.north;
-            }
-        }
-        at = next;
-        count += 1;
-        if next == first {
+    for count in 0..128 {
+        let e = front_lines::edge_at(&edges, at);
+        let before = front_lines::edge_at(&edges, e.previous);
+        let Some(p) = placed(front_lines::edge_line(before), e, t, origin) else {
             return Walk {
-                at: at,
-                seen: passed,
-                points: points,
-                count: count,
+                at,
+                seen,
+                points,
+                count,
+                closed: false,
+                lost: true,
+            };
+        };
+        front_lines::set_at(&mut seen, at, true);
+        points[2 * count] = p.east;
+        points[2 * count + 1] = p.north;
+        at = e.next;
+        if at == first {
+            return Walk {
+                at,
+                seen,
+                points,
+                count: count + 1,
                 closed: true,
                 lost: false,
             };
         }
     }
     Walk {
-        at: at,
-        seen: passed,
-        points: points,
-        count: count,
+        at,
+        seen,
+        points,
+        count: 128,
         closed: false,
         lost: false,
     }

@@ -3,7 +3,7 @@ use Prim.Native.Nat.{ℕ, zero, suc, ◌+◌, ◌*◌, ◌≤◌, ◌<◌}
 use native.Mathlib.Numerals.{add-one}
 use native.Mathlib.Nat.{le_refl}
 use native.Mathlib.Omega.{arith}
-use mathlib.Core.Bool.{Bool, true, false, cond, not, ◌&&◌}
+use mathlib.Core.Bool.{Bool, true, false, cond, ◌&&◌}
 use mathlib.Mathlib.Data.Bool.Basic.{and_elim_left, and_elim_right}
 use mathlib.Core.Path.{◌≡◌, refl, sym, ap, ◌∙◌, subst}
 use mathlib.Core.List.{List, [], ◌∷◌, ◌++◌}
@@ -11,7 +11,7 @@ use lib.Dec.{leb}
 use lib.ListN.{get_or, length, take, drop, length-append}
 use lib.Seq.{length-take-le}
 use lib.Ieee.{Float, nan}
-use borrow.Author.Tests.{leb-true, le-leb, lt-leb, not-true, not-false}
+use borrow.Author.Tests.{leb-true, le-leb, lt-leb}
 use Rattle.base.specs.Loop.{rounds}
 use Rattle.base.proofs.Laws.{rounds_same}
 use Rattle.error.specs.declared.Refusal.TheVariants.{Granted, Short, Shape}
@@ -214,17 +214,17 @@ no_stored n l one two p q = put_more l 0 2 no_word (comma ∷ count_digits n) _ 
 -- ---- the answer of a job
 
 module _ (a : RegionOffset) (l : List ℕ) (g : Bool) (e : g ≡ granted a.refusal) where
-  pub refused_answered : (n : ℕ) (x : Answered) → not g ≡ true → n ≡ number a.refusal → x ≡ bytes_answered (no_line n) l → x ≡ answered a l
+  pub refused_answered : (n : ℕ) (x : Answered) → g ≡ false → n ≡ number a.refusal → x ≡ bytes_answered (no_line n) l → x ≡ answered a l
   unfolding answered writable answer_bytes
-  refused_answered n x h q p = let f : granted a.refusal ≡ false = sym e ∙ not-true g h in rw f (p ∙ ap (λ (k : ℕ). bytes_answered (no_line k) l) q)
+  refused_answered n x h q p = let f : granted a.refusal ≡ false = sym e ∙ h in rw f (p ∙ ap (λ (k : ℕ). bytes_answered (no_line k) l) q)
 
-  pub refused_written : (n : ℕ) (x : List ℕ) → not g ≡ true → n ≡ number a.refusal → x ≡ bytes_written (no_line n) l → x ≡ answer_written a l
+  pub refused_written : (n : ℕ) (x : List ℕ) → g ≡ false → n ≡ number a.refusal → x ≡ bytes_written (no_line n) l → x ≡ answer_written a l
   unfolding answer_written writable answer_bytes
-  refused_written n x h q p = let f : granted a.refusal ≡ false = sym e ∙ not-true g h in rw f (p ∙ ap (λ (k : ℕ). bytes_written (no_line k) l) q)
+  refused_written n x h q p = let f : granted a.refusal ≡ false = sym e ∙ h in rw f (p ∙ ap (λ (k : ℕ). bytes_written (no_line k) l) q)
 
-  module _ (h : not g ≡ false) where
+  module _ (h : g ≡ true) where
     is_granted : granted a.refusal ≡ true
-    is_granted = sym e ∙ not-false g h
+    is_granted = sym e ∙ h
 
     shape_line : answer_bytes a ≡ shape_bytes a.shape.outer.points a.shape.outer.count a.shape.points a.shape.counts a.shape.holes
     unfolding answer_bytes

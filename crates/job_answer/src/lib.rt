@@ -1,7 +1,7 @@
 // The answer line of a job, to lent bytes: `no` and the number, or `ok`, the ring count, the vertex counts and the coordinates.
 #![tactic(auto)]
 
-ghost use Rattle.std.specs.Prelude.{◌≡◌, true, [], ◌+◌, ◌*◌, ◌≤◌, get_or, length, take};
+ghost use Rattle.std.specs.Prelude.{◌≡◌, true, [], ◌+◌, ◌*◌, ◌≤◌, length, take};
 ghost use Rattle.format_digits.specs.Stores.{put};
 ghost use Rattle.format.specs.Lines;
 ghost use Rattle.job_answer.specs.Writing;
@@ -16,13 +16,6 @@ pub struct Answered {
     pub count: usize,
 }
 
-// Number k of the counts; 0 past their end.
-pub(crate) fn count_at(counts: &[usize], k: usize) -> usize
-    ensures { result ≡ get_or counts.now k 0 }
-{
-    if k < counts.len() { counts[k] } else { 0 }
-}
-
 // How many bytes the first counts take.
 pub(crate) fn counts_size(counts: &[usize], holes: usize) -> usize
     requires { holes ≤ 8 }
@@ -30,10 +23,8 @@ pub(crate) fn counts_size(counts: &[usize], holes: usize) -> usize
     ensures most { result ≤ 32 }
 {
     let mut size = 0usize;
-    let mut k = 0usize;
-    while k < holes {
-        size = size + format_digits::count_size(count_at(counts, k));
-        k += 1;
+    for k in 0..holes {
+        size += format_digits::count_size(region_given::count_at(counts, k));
     }
     size
 }
@@ -46,10 +37,8 @@ pub(crate) fn vertices(counts: &[usize], holes: usize) -> usize
     ensures most { result ≤ 256 }
 {
     let mut sum = 0usize;
-    let mut k = 0usize;
-    while k < holes {
-        sum = sum + count_at(counts, k);
-        k += 1;
+    for k in 0..holes {
+        sum += region_given::count_at(counts, k);
     }
     sum
 }
@@ -61,12 +50,10 @@ pub(crate) fn put_counts(counts: &[usize], holes: usize, out: &mut [u8], at: usi
     ensures { out.new ≡ put out.old at (Writing.counts_bytes counts.now holes) }
 {
     let mut here = at;
-    let mut k = 0usize;
-    while k < holes {
-        let c = count_at(counts, k);
+    for k in 0..holes {
+        let c = region_given::count_at(counts, k);
         format_digits::put_count(c, out, here);
-        here = here + format_digits::count_size(c);
-        k += 1;
+        here += format_digits::count_size(c);
     }
 }
 
@@ -77,23 +64,15 @@ pub(crate) fn put_floats(ps: &[f64], n: usize, out: &mut [u8], at: usize)
     ensures { out.new ≡ put out.old at (Lines.with_floats (take n ps.now) []) }
 {
     let mut here = at;
-    let mut k = 0usize;
-    while k < n {
+    for k in 0..n {
         let field = format_digits::float_field(ps[k]);
         format_digits::put_bytes(&field, out, here);
-        here = here + 17;
-        k += 1;
+        here += 17;
     }
 }
 
 // The numbers of the first holes, each after its comma.
-pub(crate) fn put_holes<'a>(
-    points: &'a [f64],
-    counts: &'a [usize],
-    holes: usize,
-    out: &'a mut [u8],
-    at: usize,
-)
+pub(crate) fn put_holes(points: &[f64], counts: &[usize], holes: usize, out: &mut [u8], at: usize)
     requires holes_bound { holes ≤ 8 }
     requires holes_value { Writing.holes_fit counts.now holes ≡ true }
     requires points_len { length points.now ≡ 512 }
@@ -101,13 +80,11 @@ pub(crate) fn put_holes<'a>(
     ensures { out.new ≡ put out.old at (Writing.holes_bytes points.now counts.now holes) }
 {
     let mut here = at;
-    let mut k = 0usize;
-    while k < holes {
-        let c = count_at(counts, k);
+    for k in 0..holes {
+        let c = region_given::count_at(counts, k);
         let ps = &points[64 * k..];
         put_floats(ps, 2 * c, out, here);
-        here = here + 34 * c;
-        k += 1;
+        here += 34 * c;
     }
 }
 
@@ -123,7 +100,7 @@ pub fn no_line(n: usize, out: &mut [u8]) -> Answered
             count: 0,
         };
     }
-    format_digits::put_bytes(&[110, 111], out, 0);
+    format_digits::put_bytes(b"no", out, 0);
     format_digits::put_count(n, out, 2);
     Answered {
         refusal: Refusal::Granted,
@@ -147,7 +124,7 @@ pub(crate) fn put_head(count: usize, counts: &[usize], holes: usize, out: &mut [
     requires { holes ≤ 8 }
     ensures { out.new ≡ put out.old 0 (Writing.head_bytes count counts.now holes) }
 {
-    format_digits::put_bytes(&[111, 107], out, 0);
+    format_digits::put_bytes(b"ok", out, 0);
     format_digits::put_count(holes + 1, out, 2);
     let second = 2 + format_digits::count_size(holes + 1);
     format_digits::put_count(count, out, second);
@@ -160,13 +137,13 @@ pub(crate) fn put_head(count: usize, counts: &[usize], holes: usize, out: &mut [
 }
 
 // `ok`, the ring count, the vertex counts and the coordinates.
-pub(crate) fn ok_line<'a>(
-    outer: &'a [f64],
+pub(crate) fn ok_line(
+    outer: &[f64],
     count: usize,
-    points: &'a [f64],
-    counts: &'a [usize],
+    points: &[f64],
+    counts: &[usize],
     holes: usize,
-    out: &'a mut [u8],
+    out: &mut [u8],
 ) -> Answered
     requires count_bound { count ≤ 128 }
     requires holes_bound { holes ≤ 8 }
@@ -201,19 +178,26 @@ pub fn answer_bytes(a: RegionOffset, out: &mut [u8]) -> Answered
     ensures answered { result ≡ Writing.answered a out.old }
     ensures written { out.new ≡ Writing.answer_written a out.old }
 {
-    let refusal = a.refusal;
-    let shape = a.shape;
-    let outer = shape.outer;
-    let numbers = outer.points;
-    let count = outer.count;
-    let points = shape.points;
-    let counts = shape.counts;
-    let holes = shape.holes;
-    if !refusal.granted() {
-        return no_line(refusal.number(), out);
+    if !a.refusal.granted() {
+        return no_line(a.refusal.number(), out);
     }
-    if region_given::proper_region(&numbers, count, &points, &counts, holes) {
-        return ok_line(&numbers, count, &points, &counts, holes, out);
+    let shape = &a.shape;
+    let outer = &shape.outer;
+    if region_given::proper_region(
+        &outer.points,
+        outer.count,
+        &shape.points,
+        &shape.counts,
+        shape.holes,
+    ) {
+        return ok_line(
+            &outer.points,
+            outer.count,
+            &shape.points,
+            &shape.counts,
+            shape.holes,
+            out,
+        );
     }
     Answered {
         refusal: Refusal::Shape,

@@ -34,7 +34,7 @@ module _ (line lengths₀ lengths₁ : List ℕ) (coordinates₀ coordinates₁ 
 
   parsed_is : p ≡ answered_by (parse_job line) (parse_job line).refusal
   unfolding parse_answered
-  parsed_is = j.0 ∙ ap (λ (x : Refusal). answered_by (parse_job line) x) asked
+  parsed_is = j.answered ∙ ap (λ (x : Refusal). answered_by (parse_job line) x) asked
 
   refusal_is : p.refusal ≡ (parse_job line).refusal
   refusal_is = ap (λ (x : Parsed). x.refusal) parsed_is ∙ answered_refusal (parse_job line) (parse_job line).refusal
@@ -81,23 +81,23 @@ module _ (line lengths₀ lengths₁ : List ℕ) (coordinates₀ coordinates₁ 
     pub rings_in : p.rings ≤ length lengths₁
     rings_in =
         le_trans (le_trans (le_of_eq rings_is) (line_room line given).0)
-        (subst (λ (n : ℕ). 999 ≤ n) (sym (ap length j.1.0 ∙ (same_lengths line lengths₀ coordinates₀).0)) a)
+        (subst (λ (n : ℕ). 999 ≤ n) (sym (ap length j.counted ∙ (same_lengths line lengths₀ coordinates₀).0)) a)
 
     pub count_in : p.count ≤ length coordinates₁
     count_in =
         le_trans (le_trans (le_of_eq count_is) (line_room line given).1)
-        (subst (λ (n : ℕ). 962 ≤ n) (sym (ap length j.1.1 ∙ (same_lengths line lengths₀ coordinates₀).1)) b)
+        (subst (λ (n : ℕ). 962 ≤ n) (sym (ap length j.numbered ∙ (same_lengths line lengths₀ coordinates₀).1)) b)
 
     lengths_are : take p.rings lengths₁ ≡ (parse_job line).lengths
     unfolding lengths_written
     lengths_are =
-        ap (λ (n : ℕ). take n lengths₁) rings_is ∙ ap (λ (l : List ℕ). take (length (parse_job line).lengths) l) j.1.0
+        ap (λ (n : ℕ). take n lengths₁) rings_is ∙ ap (λ (l : List ℕ). take (length (parse_job line).lengths) l) j.counted
         ∙ front_taken (granted (parse_refusal (parse_job line) lengths₀ coordinates₀)) (parse_job line).lengths lengths₀ (ap granted asked ∙ given)
 
     coordinates_are : take p.count coordinates₁ ≡ (parse_job line).coordinates
     unfolding coordinates_written
     coordinates_are =
-        ap (λ (n : ℕ). take n coordinates₁) count_is ∙ ap (λ (l : List Float). take (length (parse_job line).coordinates) l) j.1.1
+        ap (λ (n : ℕ). take n coordinates₁) count_is ∙ ap (λ (l : List Float). take (length (parse_job line).coordinates) l) j.numbered
         ∙ front_taken (granted (parse_refusal (parse_job line) lengths₀ coordinates₀)) (parse_job line).coordinates coordinates₀ (ap granted asked ∙ given)
 
     module _ (o : RegionOffset) (q : o ≡ job p.outward p.distance (take p.rings lengths₁) (take p.count coordinates₁)) where

@@ -13,6 +13,7 @@ use error::Carried;
 use job_answer::Answered;
 use job_stream::{Next, Outcome};
 
+// Stays: `finished` and `FinishesFitting` fix its three parts.
 // Whether an answer fitted the lent bytes, how many are used then, and how many it has with its LF.
 #[derive(Clone, Copy)]
 pub struct Put {
@@ -47,6 +48,7 @@ pub struct Last {
     pub outcome: Outcome,
 }
 
+// Stays: `step_told` fixes its parts, those of the definition's state.
 // One line of a block; `more` where the next one may follow.
 #[derive(Clone, Copy)]
 pub struct Step {
@@ -58,11 +60,11 @@ pub struct Step {
 }
 
 // A line's answer line, both without LF, with memory for its numbers.
-pub(crate) fn answer_with<'a>(
-    line: &'a [u8],
-    lengths: &'a mut [usize],
-    coordinates: &'a mut [f64],
-    out: &'a mut [u8],
+pub(crate) fn answer_with(
+    line: &[u8],
+    lengths: &mut [usize],
+    coordinates: &mut [f64],
+    out: &mut [u8],
 ) -> Answered
     requires in_bounds { 999 ≤ length lengths.old }
     requires in_bounds_2 { 962 ≤ length coordinates.old }
@@ -70,19 +72,16 @@ pub(crate) fn answer_with<'a>(
     ensures written { out.new ≡ Lines.bytes_written (AnswerLines.answer_line line.now) out.old }
 {
     let p = format_job::parse_job(line, lengths, coordinates);
-    let refusal = p.refusal;
-    if refusal.granted() {
-        let rings = p.rings;
-        let count = p.count;
+    if p.refusal.granted() {
         let a = job_run::job(
             p.outward,
             p.distance,
-            &lengths[..rings],
-            &coordinates[..count],
+            &lengths[..p.rings],
+            &coordinates[..p.count],
         );
         return job_answer::answer_bytes(a, out);
     }
-    job_answer::no_line(refusal.number(), out)
+    job_answer::no_line(p.refusal.number(), out)
 }
 
 // A line's answer line, both without LF, to lent bytes: question 20 last.
@@ -100,17 +99,15 @@ pub(crate) fn bytes_needed(a: Answered) -> usize
     requires { a.count + (Carries.carried a.refusal).first ≤ 16384 }
     ensures { result ≡ Wire.needed_by a }
 {
-    let refusal = a.refusal;
-    let carried = Carried::new(refusal);
-    a.count + carried.first + 1
+    a.count + Carried::from(a.refusal).first + 1
 }
 
 // The answer line and its LF, to lent bytes from `used` on; where they do not fit, nothing.
-pub(crate) fn put_answer<'a>(
-    line: &'a [u8],
-    lengths: &'a mut [usize],
-    coordinates: &'a mut [f64],
-    out: &'a mut [u8],
+pub(crate) fn put_answer(
+    line: &[u8],
+    lengths: &mut [usize],
+    coordinates: &mut [f64],
+    out: &mut [u8],
     used: usize,
 ) -> Put
     requires in_bounds { 999 ≤ length lengths.old }
@@ -121,10 +118,9 @@ pub(crate) fn put_answer<'a>(
     let size = out.len();
     if used < size {
         let a = answer_with(line, lengths, coordinates, &mut out[used..size - 1]);
-        let refusal = a.refusal;
-        if refusal.granted() {
+        if a.refusal.granted() {
             let end = used + a.count;
-            out[end] = 10;
+            out[end] = b'\n';
             return Put {
                 fits: true,
                 used: end + 1,
@@ -133,27 +129,27 @@ pub(crate) fn put_answer<'a>(
         }
         return Put {
             fits: false,
-            used: used,
+            used,
             needed: bytes_needed(a),
         };
     }
     let b = answer_with(line, lengths, coordinates, &mut out[size..]);
     Put {
         fits: false,
-        used: used,
+        used,
         needed: bytes_needed(b),
     }
 }
 
 // The answer of the line that was found: in the block, or held.
-pub(crate) fn put_next<'a>(
-    block: &'a [u8],
+pub(crate) fn put_next(
+    block: &[u8],
     at: usize,
     next: Next,
-    held: &'a [u8],
-    lengths: &'a mut [usize],
-    coordinates: &'a mut [f64],
-    out: &'a mut [u8],
+    held: &[u8],
+    lengths: &mut [usize],
+    coordinates: &mut [f64],
+    out: &mut [u8],
     used: usize,
 ) -> Put
     requires in_bounds { 999 ≤ length lengths.old }
@@ -164,23 +160,21 @@ pub(crate) fn put_next<'a>(
     ensures told { result ≡ Wire.answer_put (Wire.line_of block.now at next held.now) out.old used }
     ensures written { out.new ≡ Wire.put_written (Wire.line_of block.now at next held.now) out.old used }
 {
-    let stop = next.stop;
-    let count = next.count;
     if next.direct {
-        return put_answer(&block[at..stop], lengths, coordinates, out, used);
+        return put_answer(&block[at..next.stop], lengths, coordinates, out, used);
     }
-    put_answer(&held[..count], lengths, coordinates, out, used)
+    put_answer(&held[..next.count], lengths, coordinates, out, used)
 }
 
 // One line of a block: it is answered, or what there is of it is held.
-pub(crate) fn feed_line<'a>(
-    block: &'a [u8],
+pub(crate) fn feed_line(
+    block: &[u8],
     at: usize,
-    held: &'a mut [u8],
+    held: &mut [u8],
     count: usize,
-    lengths: &'a mut [usize],
-    coordinates: &'a mut [f64],
-    out: &'a mut [u8],
+    lengths: &mut [usize],
+    coordinates: &mut [f64],
+    out: &mut [u8],
     used: usize,
 ) -> Step
     requires in_bounds { 999 ≤ length lengths.old }
@@ -196,12 +190,11 @@ pub(crate) fn feed_line<'a>(
         (Feeding.feed_line block.now (Wire.feed_of at held.old count out.old used)) }
 {
     let next = job_stream::next_line(block, at, held, count);
-    let stop = next.stop;
     if next.ended {
         let p = put_next(block, at, next, held, lengths, coordinates, out, used);
         if p.fits {
             return Step {
-                at: stop + 1,
+                at: next.stop + 1,
                 count: 0,
                 used: p.used,
                 needed: 0,
@@ -209,17 +202,17 @@ pub(crate) fn feed_line<'a>(
             };
         }
         return Step {
-            at: base::choose(next.direct, at, stop),
+            at: base::choose(next.direct, at, next.stop),
             count: next.count,
-            used: used,
+            used,
             needed: p.needed,
             more: false,
         };
     }
     Step {
-        at: stop,
+        at: next.stop,
         count: next.count,
-        used: used,
+        used,
         needed: 0,
         more: false,
     }
@@ -228,7 +221,7 @@ pub(crate) fn feed_line<'a>(
 // The lines of a block, until it is taken or an answer does not fit the output; `count` bytes of a cut line are held. A call with 16,385
 // bytes of output takes one line at least, or the whole block. Where the memory lent for a cut line has not the room, or the count is none
 // that a call hands back, nothing is changed.
-pub fn feed<'a>(block: &'a [u8], held: &'a mut [u8], count: usize, out: &'a mut [u8]) -> Fed
+pub fn feed(block: &[u8], held: &mut [u8], count: usize, out: &mut [u8]) -> Fed
     ensures told { result ≡ Wire.feed_told block.now held.old count out.old }
     ensures held { held.new ≡ Wire.held_of (Wire.stream_fed block.now held.old count out.old) }
     ensures written { out.new ≡ Wire.out_of (Wire.stream_fed block.now held.old count out.old) }
@@ -236,7 +229,7 @@ pub fn feed<'a>(block: &'a [u8], held: &'a mut [u8], count: usize, out: &'a mut 
     if held.len() < 16385 {
         return Fed {
             taken: 0,
-            count: count,
+            count,
             used: 0,
             outcome: Outcome::Unheld,
         };
@@ -244,7 +237,7 @@ pub fn feed<'a>(block: &'a [u8], held: &'a mut [u8], count: usize, out: &'a mut 
     if 16385 < count {
         return Fed {
             taken: 0,
-            count: count,
+            count,
             used: 0,
             outcome: Outcome::Miscounted,
         };
@@ -261,13 +254,13 @@ pub fn feed<'a>(block: &'a [u8], held: &'a mut [u8], count: usize, out: &'a mut 
 }
 
 // The same with memory for a line's numbers.
-pub(crate) fn feed_lines<'a>(
-    block: &'a [u8],
-    held: &'a mut [u8],
+pub(crate) fn feed_lines(
+    block: &[u8],
+    held: &mut [u8],
     count: usize,
-    lengths: &'a mut [usize],
-    coordinates: &'a mut [f64],
-    out: &'a mut [u8],
+    lengths: &mut [usize],
+    coordinates: &mut [f64],
+    out: &mut [u8],
 ) -> Taken
     requires in_bounds { 999 ≤ length lengths.old }
     requires in_bounds_2 { 962 ≤ length coordinates.old }
@@ -280,32 +273,30 @@ pub(crate) fn feed_lines<'a>(
     let mut at = 0usize;
     let mut have = count;
     let mut used = 0usize;
-    let mut k = 0usize;
-    while k <= block.len() {
-        k += 1;
+    for _ in 0..=block.len() {
         let s = feed_line(block, at, held, have, lengths, coordinates, out, used);
         at = s.at;
         have = s.count;
         used = s.used;
         if !s.more {
             return Taken {
-                at: at,
+                at,
                 count: have,
-                used: used,
+                used,
                 needed: s.needed,
             };
         }
     }
     Taken {
-        at: at,
+        at,
         count: have,
-        used: used,
+        used,
         needed: 0,
     }
 }
 
 // The end of the input: a line that has a byte is answered. 16,385 bytes of output are always enough.
-pub fn finish<'a>(held: &'a [u8], count: usize, out: &'a mut [u8]) -> Last
+pub fn finish(held: &[u8], count: usize, out: &mut [u8]) -> Last
     ensures told { result ≡ Wire.finish_told held.now count out.old }
     ensures written { out.new ≡ Wire.finish_written held.now count out.old }
 {

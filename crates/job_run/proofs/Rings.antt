@@ -1,6 +1,6 @@
 -- The branches of a job, by its definition. Assumes nothing.
 use Prim.Native.Nat.{ℕ, ◌%◌}
-use mathlib.Core.Bool.{Bool, true, false, cond, not, ◌||◌}
+use mathlib.Core.Bool.{Bool, true, false, cond, not, ◌&&◌, ◌||◌}
 use mathlib.Core.Path.{◌≡◌, refl, sym, ap, ◌∙◌}
 use mathlib.Core.List.{List}
 use lib.Dec.{eqb}
@@ -62,15 +62,21 @@ module _ (outward : Bool) (d : Float) (lengths : List ℕ) (ps : List Float) whe
   unfolding job_finite
   finite_no r x t e g q = no _ _ _ _ q (sym g ∙ e)
 
-  pub job_yes : (not outward || eqb (length lengths) 1) ≡ true → length ps % 2 ≡ 0 → (r : Refusal) → r ≡ check_finite ps
+  -- the definition asks whether the side fits, the code whether it does not
+  fits_by : (a b c : Bool) → (a && not b) ≡ c → (not a || b) ≡ not c
+  fits_by true true c h = ap not h
+  fits_by true false c h = ap not h
+  fits_by false b c h = ap not h
+
+  pub job_yes : (outward && not (eqb (length lengths) 1)) ≡ false → length ps % 2 ≡ 0 → (r : Refusal) → r ≡ check_finite ps
       → (x : RegionOffset) → x ≡ job_finite outward d lengths ps r → x ≡ job outward d lengths ps
   unfolding job job_numbers side_fits
-  job_yes s e r f x q = yes _ _ _ _ (yes _ _ _ _ (q ∙ ap (job_finite outward d lengths ps) f) (eq-eqb (length ps % 2) 0 e)) s
+  job_yes s e r f x q = yes _ _ _ _ (yes _ _ _ _ (q ∙ ap (job_finite outward d lengths ps) f) (eq-eqb (length ps % 2) 0 e)) (fits_by _ _ _ s)
 
-  pub job_odd : (not outward || eqb (length lengths) 1) ≡ true → (length ps % 2 ≡ 0 → ⊥) → (x : RegionOffset) → x ≡ job_refused Odd → x ≡ job outward d lengths ps
+  pub job_odd : (outward && not (eqb (length lengths) 1)) ≡ false → (length ps % 2 ≡ 0 → ⊥) → (x : RegionOffset) → x ≡ job_refused Odd → x ≡ job outward d lengths ps
   unfolding job job_numbers side_fits
-  job_odd s e x q = yes _ _ _ _ (no _ _ _ _ q (ne_eqb (length ps % 2) 0 e)) s
+  job_odd s e x q = yes _ _ _ _ (no _ _ _ _ q (ne_eqb (length ps % 2) 0 e)) (fits_by _ _ _ s)
 
-  pub job_no : (not outward || eqb (length lengths) 1) ≡ false → (x : RegionOffset) → x ≡ job_refused Job → x ≡ job outward d lengths ps
+  pub job_no : (outward && not (eqb (length lengths) 1)) ≡ true → (x : RegionOffset) → x ≡ job_refused Job → x ≡ job outward d lengths ps
   unfolding job side_fits
-  job_no s x q = no _ _ _ _ q s
+  job_no s x q = no _ _ _ _ q (fits_by _ _ _ s)

@@ -27,12 +27,10 @@ pub(crate) fn refused(r: Refusal) -> RegionOffset
 pub(crate) fn as_region(r: Offset) -> RegionOffset
     ensures { result ≡ Jobs.as_region r }
 {
-    let u = r.refusal;
-    let o = r.shape;
     RegionOffset {
-        refusal: u,
+        refusal: r.refusal,
         shape: Region {
-            outer: o,
+            outer: r.shape,
             points: [0.0; 512],
             counts: [0; 8],
             holes: 0,
@@ -47,12 +45,10 @@ pub(crate) fn as_region(r: Offset) -> RegionOffset
 pub(crate) fn job_outline(outward: bool, d: f64, o: NewOutline) -> RegionOffset
     ensures { result ≡ Jobs.job_outline outward d o }
 {
-    let u = o.refusal;
-    if u.granted() {
-        let shape = o.shape;
-        as_region(offset_run::offset(shape, outward, d))
+    if o.refusal.granted() {
+        as_region(offset_run::offset(o.shape, outward, d))
     } else {
-        refused(u)
+        refused(o.refusal)
     }
 }
 
@@ -60,22 +56,15 @@ pub(crate) fn job_outline(outward: bool, d: f64, o: NewOutline) -> RegionOffset
 pub(crate) fn job_region(d: f64, r: NewRegion) -> RegionOffset
     ensures { result ≡ Jobs.job_region d r }
 {
-    let u = r.refusal;
-    if u.granted() {
-        let shape = r.shape;
-        region_inset::inset(shape, d)
+    if r.refusal.granted() {
+        region_inset::inset(r.shape, d)
     } else {
-        refused(u)
+        refused(r.refusal)
     }
 }
 
 // Question 3, then the rings: one is an outline, more are a region.
-pub(crate) fn job_fitting<'a>(
-    outward: bool,
-    d: f64,
-    lengths: &'a [usize],
-    ps: &'a [f64],
-) -> RegionOffset
+pub(crate) fn job_fitting(outward: bool, d: f64, lengths: &[usize], ps: &[f64]) -> RegionOffset
     ensures { result ≡ Fitting.job_fitting outward d lengths.now ps.now }
 {
     if region_load::lengths_fit(lengths, ps) {
@@ -95,11 +84,11 @@ pub(crate) fn job_fitting<'a>(
 }
 
 // r is what question 2 answers.
-pub(crate) fn job_finite<'a>(
+pub(crate) fn job_finite(
     outward: bool,
     d: f64,
-    lengths: &'a [usize],
-    ps: &'a [f64],
+    lengths: &[usize],
+    ps: &[f64],
     r: Refusal,
 ) -> RegionOffset
     ensures { result ≡ Jobs.job_finite outward d lengths.now ps.now r }
@@ -112,15 +101,14 @@ pub(crate) fn job_finite<'a>(
 }
 
 // A side, a distance, the ring lengths and the coordinates: 22 of the side, then 1, 2 and 3, then 4 to 19.
-pub fn job<'a>(outward: bool, d: f64, lengths: &'a [usize], ps: &'a [f64]) -> RegionOffset
+pub fn job(outward: bool, d: f64, lengths: &[usize], ps: &[f64]) -> RegionOffset
     ensures { result ≡ Jobs.job outward d lengths.now ps.now }
 {
-    let fits = !outward | (lengths.len() == 1);
-    if fits {
-        if ps.len() % 2 == 0 {
-            return job_finite(outward, d, lengths, ps, entry::check_finite(ps));
-        }
+    if outward & (lengths.len() != 1) {
+        return refused(Refusal::Job);
+    }
+    if ps.len() % 2 != 0 {
         return refused(Refusal::Odd);
     }
-    refused(Refusal::Job)
+    job_finite(outward, d, lengths, ps, entry::check_finite(ps))
 }

@@ -1,15 +1,16 @@
 -- Where a line of a block ends, and what is held of it. Assumes nothing.
 use Prim.Native.Nat.{ℕ, suc, ◌+◌, ◌-◌, ◌≤◌, ◌<◌}
-use native.Mathlib.Nat.{le_of_lt, le_of_eq, le-add_right, add-zero, add-suc, suc-add}
+use native.Mathlib.Nat.{le_refl, le_of_lt, le_of_eq, min-eq_left, min-eq_right, le-add_right, add-zero, add-suc, suc-add}
 use native.Mathlib.Numerals.{add-one}
 use native.Mathlib.Omega.{arith}
 use mathlib.Core.Bool.{Bool, true, false, cond}
 use mathlib.Core.Path.{◌≡◌, refl, sym, ap, ◌∙◌, subst}
 use mathlib.Core.List.{List, []}
-use lib.Dec.{ltb}
+use Rattle.std.proofs.Common.{min, max}
+use lib.Dec.{leb}
 use lib.ListN.{get_or, length, take, drop, length-drop, drop_of_length-le}
-use lib.Seq.{take_all, take-length, take-nil, drop-cons, drop-length, length-take-le}
-use borrow.Author.Tests.{ltb-true, ltb-false, lt-ltb, le-ltb, eq-eqb, ne_eqb}
+use lib.Seq.{take_all, take-nil, drop-cons, drop-length, length-take-le}
+use borrow.Author.Tests.{leb-true, leb-false, lt-ltb, le-ltb, eq-eqb, ne_eqb}
 use Rattle.format.specs.Fields.{line_feed}
 use Rattle.format_digits.specs.Stores.{put}
 use Rattle.job_stream.specs.declared.Next.{Next}
@@ -38,35 +39,45 @@ module _ (block : List ℕ) where
       ∙ sym (suc-add k (before_feed (drop (suc k) block)))
       ∙ ap (λ (n : ℕ). n + before_feed (drop n block)) (sym (add-one k))
 
+  -- no LF is found
+  pub end_none : (at k end : ℕ) → length block ≤ k → (at ≤ length block → k ≤ length block) → line_end block at ≡ line_end block k
+      → end ≡ max (length block) at → end ≡ line_end block at
+  end_none at k end l h e c = go (leb at (length block)) refl
+    where
+      last : (n : ℕ) → n ≤ k → k ≤ n → at ≤ n → end ≡ max n at → end ≡ k
+      last n a b d m = omega arith
+
+      none : (n : ℕ) → n < at → end ≡ max n at → end ≡ at
+      none n d m = omega arith
+
+      go : (t : Bool) → leb at (length block) ≡ t → end ≡ line_end block at
+      go true g = let d = leb-true at (length block) g in last (length block) l (h d) d c ∙ sym (e ∙ end_past k l)
+      go false g = let d = leb-false at (length block) g in none (length block) d c ∙ sym (end_past at (le_of_lt d))
+
   pub end_from : (at : ℕ) → at ≤ line_end block at
   unfolding line_end
   end_from at = le-add_right at (before_feed (drop at block))
 
 -- ---- what is held
 
-module _ (part : List ℕ) (count room n : ℕ) (e : room ≡ most_held - count) (h : n ≡ cond (ltb (length part) room) (length part) room) where
-  pub first_bytes : take n part ≡ take (most_held - count) part
-  first_bytes = go (ltb (length part) room) refl h
-    where
-      go : (t : Bool) → ltb (length part) room ≡ t → n ≡ cond t (length part) room → take n part ≡ take (most_held - count) part
-      go true g q =
-          ap (λ (k : ℕ). take k part) q ∙ take-length part
-          ∙ sym (take_all (most_held - count) part (subst (λ (k : ℕ). length part ≤ k) e (le_of_lt (ltb-true (length part) room g))))
-      go false g q = ap (λ (k : ℕ). take k part) (q ∙ e)
+module _ (part : List ℕ) (count room n : ℕ) (e : room ≡ most_held - count) (h : n ≡ min (length part) room) where
+  least : n ≡ min (length part) (most_held - count)
+  least = h ∙ ap (λ (m : ℕ). min (length part) m) e
 
   pub in_part : n ≤ length part
-  in_part = go (ltb (length part) room) refl h
-    where
-      go : (t : Bool) → ltb (length part) room ≡ t → n ≡ cond t (length part) room → n ≤ length part
-      go true g q = le_of_eq q
-      go false g q = subst (λ (k : ℕ). k ≤ length part) (sym q) (ltb-false (length part) room g)
+  in_part = omega (arith, least)
 
   pub in_room : n ≤ most_held - count
-  in_room = go (ltb (length part) room) refl h
+  in_room = omega (arith, least)
+
+  first_bytes : take n part ≡ take (most_held - count) part
+  first_bytes = go (leb (length part) (most_held - count)) refl
     where
-      go : (t : Bool) → ltb (length part) room ≡ t → n ≡ cond t (length part) room → n ≤ most_held - count
-      go true g q = subst (λ (k : ℕ). n ≤ k) e (subst (λ (k : ℕ). k ≤ room) (sym q) (le_of_lt (ltb-true (length part) room g)))
-      go false g q = le_of_eq (q ∙ e)
+      go : (t : Bool) → leb (length part) (most_held - count) ≡ t → take n part ≡ take (most_held - count) part
+      go true g =
+          let l = leb-true (length part) (most_held - count) g in
+          take_all n part (subst (λ (k : ℕ). length part ≤ k) (sym (least ∙ min-eq_left l)) (le_refl (length part))) ∙ sym (take_all (most_held - count) part l)
+      go false g = ap (λ (k : ℕ). take k part) (least ∙ min-eq_right (le_of_lt (leb-false (length part) (most_held - count) g)))
 
   pub counted : count + n ≡ count_with count part
   unfolding count_with
@@ -136,31 +147,27 @@ module _ (block : List ℕ) (at stop : ℕ) (e : stop ≡ line_end block at) whe
   pub held_kept : (count : ℕ) (held after : List ℕ) → stop < length block → (count ≡ 0 → ⊥) → after ≡ held_with held count (take (stop - at) (drop at block)) → after ≡ next_held block at held count
   held_kept count held after l z q = held_as count held after false (found_held count l z) (q ∙ ap (λ (p : List ℕ). held_with held count p) part_is)
 
-  module _ (from : ℕ) (h : from ≡ cond (ltb at (length block)) at (length block)) where
+  module _ (from : ℕ) (h : from ≡ min at (length block)) where
     pub from_in : from ≤ length block
-    from_in = go (ltb at (length block)) refl h
-      where
-        go : (t : Bool) → ltb at (length block) ≡ t → from ≡ cond t at (length block) → from ≤ length block
-        go true g q = subst (λ (n : ℕ). n ≤ length block) (sym q) (le_of_lt (ltb-true at (length block) g))
-        go false g q = le_of_eq q
+    from_in = omega arith
 
     rest_part : length block ≤ stop → take (length block - from) (drop from block) ≡ line_part block at
     unfolding line_part line_end
-    rest_part l = go (ltb at (length block)) refl h
+    rest_part l = go (leb at (length block)) refl
       where
         all : (a p m s : ℕ) → m ≤ s → s ≡ a + p → m - a ≤ p
         all a p m s x y = omega arith
 
-        go : (t : Bool) → ltb at (length block) ≡ t → from ≡ cond t at (length block) → take (length block - from) (drop from block) ≡ take (before_feed (drop at block)) (drop at block)
-        go true g q =
-            ap (λ (n : ℕ). take (length block - n) (drop n block)) q
+        go : (t : Bool) → leb at (length block) ≡ t → take (length block - from) (drop from block) ≡ take (before_feed (drop at block)) (drop at block)
+        go true g =
+            ap (λ (n : ℕ). take (length block - n) (drop n block)) (h ∙ min-eq_left (leb-true at (length block) g))
             ∙ take_all (length block - at) (drop at block) (le_of_eq (length-drop at block))
             ∙ sym (take_all (before_feed (drop at block)) (drop at block) (subst (λ (n : ℕ). n ≤ before_feed (drop at block)) (sym (length-drop at block)) (all at (before_feed (drop at block)) (length block) stop l e)))
-        go false g q =
-            ap (λ (n : ℕ). take (length block - n) (drop n block)) q
+        go false g =
+            ap (λ (n : ℕ). take (length block - n) (drop n block)) (h ∙ min-eq_right (le_of_lt (leb-false at (length block) g)))
             ∙ ap (λ (m : List ℕ). take (length block - length block) m) (drop-length block)
             ∙ take-nil (length block - length block)
-            ∙ sym (ap (λ (m : List ℕ). take (before_feed m) m) (drop_of_length-le block (ltb-false at (length block) g)) ∙ take-nil (before_feed []))
+            ∙ sym (ap (λ (m : List ℕ). take (before_feed m) m) (drop_of_length-le block (le_of_lt (leb-false at (length block) g))) ∙ take-nil (before_feed []))
 
     pub cut_next : (count n : ℕ) → length block ≤ stop → n ≡ count_with count (take (length block - from) (drop from block))
         → ◌≡◌ {A = Next} (record { stop = stop; ended = false; direct = false; count = n }) (next_of block at count)

@@ -58,29 +58,26 @@ pub fn how_ended(whole: bool, needed: usize) -> Outcome
 pub(crate) fn line_end(block: &[u8], at: usize) -> usize
     ensures { result ≡ Feeding.line_end block.now at }
 {
-    let mut k = at;
-    while k < block.len() {
-        if block[k] == 10 {
+    for k in at..block.len() {
+        if block[k] == b'\n' {
             return k;
         }
-        k += 1;
     }
-    k
+    block.len().max(at)
 }
 
 // More bytes of a line after those that are held, up to 16,385 in all. Answers how many are held then.
-pub(crate) fn hold<'a>(part: &'a [u8], held: &'a mut [u8], count: usize) -> usize
+pub(crate) fn hold(part: &[u8], held: &mut [u8], count: usize) -> usize
     ensures counted { result ≡ Feeding.count_with count part.now }
     ensures held { held.new ≡ Feeding.held_with held.old count part.now }
 {
-    let room = base::less(16385, count);
-    let n = base::choose(part.len() < room, part.len(), room);
+    let n = part.len().min(base::less(16385, count));
     format_digits::put_bytes(&part[..n], held, count);
     count + n
 }
 
 // The next line of a block, from `at` on. `count` bytes of it are held from the blocks before.
-pub fn next_line<'a>(block: &'a [u8], at: usize, held: &'a mut [u8], count: usize) -> Next
+pub fn next_line(block: &[u8], at: usize, held: &mut [u8], count: usize) -> Next
     ensures found { result ≡ Feeding.next_of block.now at count }
     ensures held { held.new ≡ Feeding.next_held block.now at held.old count }
 {
@@ -88,7 +85,7 @@ pub fn next_line<'a>(block: &'a [u8], at: usize, held: &'a mut [u8], count: usiz
     if stop < block.len() {
         if count == 0 {
             return Next {
-                stop: stop,
+                stop,
                 ended: true,
                 direct: true,
                 count: 0,
@@ -96,16 +93,16 @@ pub fn next_line<'a>(block: &'a [u8], at: usize, held: &'a mut [u8], count: usiz
         }
         let whole = hold(&block[at..stop], held, count);
         return Next {
-            stop: stop,
+            stop,
             ended: true,
             direct: false,
             count: whole,
         };
     }
-    let from = base::choose(at < block.len(), at, block.len());
+    let from = at.min(block.len());
     let begun = hold(&block[from..], held, count);
     Next {
-        stop: stop,
+        stop,
         ended: false,
         direct: false,
         count: begun,

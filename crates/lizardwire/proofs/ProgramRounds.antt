@@ -2,7 +2,7 @@
 use Prim.Native.Nat.{ℕ, ◌+◌, ◌-◌, ◌≤◌, ◌<◌}
 use native.Mathlib.Nat.{le_of_eq}
 use native.Mathlib.Omega.{arith}
-use mathlib.Core.Bool.{Bool, true, false, cond, false≢true}
+use mathlib.Core.Bool.{Bool, true, false, cond}
 use mathlib.Core.Logic.{◌⊎◌, inl, inr}
 use mathlib.Core.Path.{◌≡◌, refl, sym, ap, ◌∙◌, subst}
 use mathlib.Core.List.{List, []}
@@ -195,12 +195,6 @@ less_left x y n p q = omega arith
 
 -- at the block's end
 pub block_ends : (block held₀ : List ℕ) (count at : ℕ) (held : List ℕ) (have : ℕ) → at ≤ length block → length block ≤ at → have ≤ most_held → Line block held₀ count at held have
-    → BlockTaken block held₀ count held (record { count = have; more = true; failed = false })
+    → BlockTaken block held₀ count held have
 block_ends block held₀ count at held have a b m q =
-    record { most = m; goes = λ z. refl; line = λ z. sym (ap (λ (l : List ℕ). (block_taken (machine held₀ count []) l).line) (sym (take_all at block b)) ∙ q) }
-
-pub block_fails : (block held₀ : List ℕ) (count : ℕ) (held : List ℕ) (have : ℕ) (more : Bool) → have ≤ most_held → BlockTaken block held₀ count held (record { count = have; more = more; failed = true })
-block_fails block held₀ count held have more m = record { most = m; goes = λ z. absurd (no z); line = λ z. absurd (no z) }
-  where
-    no : true ≡ false → ⊥
-    no z = false≢true (sym z)
+    record { most = m; line = sym (ap (λ (l : List ℕ). (block_taken (machine held₀ count []) l).line) (sym (take_all at block b)) ∙ q) }

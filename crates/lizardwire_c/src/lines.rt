@@ -15,8 +15,7 @@ pub fn lw_job_line(line: &[u8], out: &mut [u8]) -> LwLine
     ensures written { out.new ≡ Lines.bytes_written (AnswerLines.answer_line line.now) out.old }
 {
     let a = job_lines::answer_line(line, out);
-    let refusal = a.refusal;
-    told::line(refusal, a.count)
+    told::line(a.refusal, a.count)
 }
 
 // Makes the state of a stream of job lines in lent bytes: question 20 of them.
@@ -28,7 +27,7 @@ pub fn lw_stream(state: &mut [u8]) -> LwLine
 }
 
 // The next bytes of a stream: 20 and 21 of the state, then 20 where not even the first answer fits the output.
-pub fn lw_feed<'a>(block: &'a [u8], state: &'a mut [u8], out: &'a mut [u8]) -> LwFed
+pub fn lw_feed(block: &[u8], state: &mut [u8], out: &mut [u8]) -> LwFed
     ensures answered { result ≡ Calls.lw_feed block.now state.old out.old }
     ensures state { state.new ≡ Calls.lw_feed_state block.now state.old out.old }
     ensures written { out.new ≡ Calls.lw_feed_out block.now state.old out.old }
@@ -37,7 +36,7 @@ pub fn lw_feed<'a>(block: &'a [u8], state: &'a mut [u8], out: &'a mut [u8]) -> L
 }
 
 // The end of a stream: 20 and 21 of the state, then 20 of the output.
-pub fn lw_finish<'a>(state: &'a mut [u8], out: &'a mut [u8]) -> LwFed
+pub fn lw_finish(state: &mut [u8], out: &mut [u8]) -> LwFed
     ensures answered { result ≡ Calls.lw_finish state.old out.old }
     ensures state { state.new ≡ Calls.lw_finish_state state.old out.old }
     ensures written { out.new ≡ Calls.lw_finish_out state.old out.old }

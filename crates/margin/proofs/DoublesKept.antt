@@ -23,8 +23,8 @@ use Rattle.outline.specs.declared.Outline.{Outline}
 use Rattle.outline.specs.declared.NewOutline.{NewOutline}
 use Rattle.outline.specs.Outlines.{proper, no_outline, stored_outline, outline_refused, offset_tolerance}
 use Rattle.front.specs.declared.Edge.{Edge}
-use Rattle.front.specs.declared.Vertex.{Vertex}
-use Rattle.front.specs.declared.Vertex.TheVariants.{NoVertex, Moving}
+use Rattle.front.specs.declared.Moving.{Moving}
+use Rattle.std.specs.Prelude.{Option, None, Some}
 use Rattle.front.specs.declared.Walk.{Walk}
 use Rattle.front.specs.declared.Sweep.{Sweep}
 use Rattle.front.specs.Edges.{edge, vertex}
@@ -106,10 +106,11 @@ on_doubles : (first next : ℕ) (p : PlanarPoint) (w : Walk) → DoubleWalk w �
 unfolding walk_on
 on_doubles first next p w h e n = both DoubleWalk (finite p.east && finite p.north) (record { all = store_doubles w.points w.count p h.all e n }) (lost_doubles w h)
 
-vertex_doubles : (first next : ℕ) (origin : PlanarPoint) (w : Walk) (v : Vertex) → DoubleWalk w → DoubleWalk (walk_vertex first next origin w v)
+vertex_doubles : (first next : ℕ) (origin : PlanarPoint) (w : Walk) (v : Option Moving) → DoubleWalk w → DoubleWalk (walk_vertex first next origin w v)
 unfolding walk_vertex
-vertex_doubles first next origin w NoVertex h = lost_doubles w h
-vertex_doubles first next origin w (Moving p v) h =
+vertex_doubles first next origin w None h = lost_doubles w h
+vertex_doubles first next origin w (Some m) h =
+    let p : PlanarPoint = m.at in
     on_doubles first next (record { east = Number.add p.east origin.east; north = Number.add p.north origin.north }) w h (add-fits binary64 p.east origin.east) (add-fits binary64 p.north origin.north)
 
 walk_doubles : (f : List Edge) (t : Float) (origin : PlanarPoint) (first : ℕ) (seen : List Bool) → DoubleWalk (walk f t origin first seen)

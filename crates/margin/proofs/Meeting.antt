@@ -13,7 +13,7 @@ use Rattle.segment.specs.Segments.{segments_meet}
 use Rattle.segment.proofs.Theorem.{meet_iff_shared}
 use Rattle.ring.specs.Ring.{vertex_at, edge_end, source, stored_at}
 use Rattle.ring.proofs.Vertices.{at_ends}
-use Rattle.ring_cross.specs.declared.Crossing.TheVariants.{Simple}
+use Rattle.std.specs.Prelude.{None}
 use Rattle.ring_cross.specs.Simple.{check_simple}
 use Rattle.ring_cross.proofs.SimpleExact.{simple_exact}
 use Rattle.ring_cross.specs.Meet.{rings_meet}
@@ -48,7 +48,7 @@ module _ (ps : List Float) (n : ℕ) (s : Sound ps n) where
     both_finite = rw (s.fine (2 * k) (omega arith)).finite (s.fine (2 * k + 1) (omega arith)).finite;
   }
 
-  meets_not_itself : check_simple ps n false ≡ Simple → MeetsNotItself ps n
+  meets_not_itself : check_simple ps n false ≡ None → MeetsNotItself ps n
   unfolding stored_at source
   meets_not_itself e = record {
     strangers = simple_exact.simple ps n false vertex_finite e;

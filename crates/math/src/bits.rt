@@ -1,16 +1,9 @@
-// The fields of a double's 64 bits: sign, exponent, digits. And of whole numbers `pick`, the choice between two, and `power`.
+// The fields of a double's 64 bits: sign, exponent, digits. And `power`, of whole numbers.
 ghost use Rattle.std.specs.Prelude.{◌≡◌, cond, ◌%◌, ◌^◌};
 ghost use Rattle.math.specs.Parts.{exponent_of, significand_of};
 
 // 2^52.
-const HIDDEN: u64 = 0x10_0000_0000_0000;
-
-// a where the test holds, else b.
-pub fn pick(test: bool, a: u64, b: u64) -> u64
-    ensures { result ≡ cond test a b }
-{
-    if test { a } else { b }
-}
+pub(crate) const HIDDEN: u64 = 0x10_0000_0000_0000;
 
 // 2^n where n is below 64.
 pub fn power(n: u64) -> u64
@@ -30,8 +23,7 @@ pub fn magnitude(pattern: u64) -> u64
 pub fn exponent(a: u64) -> u64
     ensures { result ≡ exponent_of a }
 {
-    let field = a >> 52;
-    if field == 0 { 0 } else { field - 1 }
+    (a >> 52).saturating_sub(1)
 }
 
 // The digits below the leading one.

@@ -9,13 +9,6 @@ ghost use Rattle.math.specs.Number;
 pub mod bits;
 mod root;
 
-// a where the test holds, else b.
-pub fn choose(test: bool, a: f64, b: f64) -> f64
-    ensures { result ≡ cond test a b }
-{
-    if test { a } else { b }
-}
-
 pub fn abs(x: f64) -> f64
     ensures { result ≡ Number.abs x }
 {
@@ -26,31 +19,37 @@ pub fn abs(x: f64) -> f64
 }
 
 // The smaller; a NaN is passed over.
+// Stays: `Number.fmin` fixes which of 0 and −0 it is: the library's `min` takes the first, this the second.
+#[tactic(auto, unfolding(crate::specs::Number::fmin))]
 pub fn min(x: f64, y: f64) -> f64
     ensures { result ≡ Number.fmin x y }
 {
-    choose(x < y, x, choose(y == y, y, x))
+    base::choose(x < y, x, base::choose(y == y, y, x))
 }
 
 // The larger; a NaN is passed over.
+#[tactic(auto, unfolding(crate::specs::Number::fmax))]
 pub fn max(x: f64, y: f64) -> f64
     ensures { result ≡ Number.fmax x y }
 {
-    choose(y < x, x, choose(y == y, y, x))
+    base::choose(y < x, x, base::choose(y == y, y, x))
 }
 
+#[tactic(auto, using(crate::proofs::Values::no_nan))]
 pub fn infinity() -> f64
     ensures { result ≡ Number.infinity }
 {
     f64::from_bits(0x7ff0_0000_0000_0000)
 }
 
+#[tactic(auto, using(crate::proofs::Values::zero_by_zero))]
 pub fn nan() -> f64
     ensures { result ≡ nan }
 {
     0.0 / 0.0
 }
 
+#[tactic(auto, using(crate::proofs::Absolute::finite_test))]
 pub fn finite(x: f64) -> bool
     ensures { result ≡ Number.finite x }
 {
@@ -59,18 +58,20 @@ pub fn finite(x: f64) -> bool
 }
 
 // x, but 0 below 0 and 1 above 1.
+#[tactic(auto, unfolding(crate::specs::Number::clamp, crate::specs::Number::raised, crate::specs::Number::lowered))]
 pub fn clamp(x: f64) -> f64
     ensures { result ≡ Number.clamp x }
 {
-    let raised = choose(x < 0.0, 0.0, x);
-    choose(1.0 < raised, 1.0, raised)
+    let raised = base::choose(x < 0.0, 0.0, x);
+    base::choose(1.0 < raised, 1.0, raised)
 }
 
 // An infinite or NaN distance reads 0.
+#[tactic(auto, unfolding(crate::specs::Number::distance))]
 pub fn distance(x: f64) -> f64
     ensures { result ≡ Number.distance x }
 {
-    choose(finite(x), x, 0.0)
+    base::choose(finite(x), x, 0.0)
 }
 
 // The double nearest to the root of x² + y², at a tie the even one.
@@ -85,8 +86,5 @@ pub fn hypot(x: f64, y: f64) -> f64
     }
     let a = root::magnitude(x);
     let b = root::magnitude(y);
-    let less = a < b;
-    let high = bits::pick(less, b, a);
-    let low = bits::pick(less, a, b);
-    root::of_magnitudes(high, low)
+    root::of_magnitudes(a.max(b), a.min(b))
 }

@@ -6,11 +6,10 @@ ghost use Rattle.hypotenuse.specs.Hypot.{hypot, round_root};
 ghost use Rattle.math.specs.Parts.{RootOf, Halved, WideOf, CutOf, Twice, Fourth, Parts, Larger, units_of};
 
 use crate::bits;
+use crate::bits::HIDDEN;
 
-// 2^27, 2^52, 2^54, and the pattern of infinity.
+// 2^27, 2^54, and the pattern of infinity.
 const BASE: u64 = 0x800_0000;
-
-const HIDDEN: u64 = 0x10_0000_0000_0000;
 
 const WORD: u64 = 0x40_0000_0000_0000;
 
@@ -39,6 +38,7 @@ struct Cut {
 }
 
 // One binary digit of the root for each pair of binary digits of `word`, the highest first.
+#[tactic(auto, using(crate::proofs::RootDigit::root_small, crate::proofs::RootDigit::walk_end))]
 fn digits(start: Root, word: u64, pairs: u64) -> Root
     requires root_bound { start.root < 2 ^ 28 }
     requires rest_bound { start.rest ≤ 2 * start.root }
@@ -48,9 +48,7 @@ fn digits(start: Root, word: u64, pairs: u64) -> Root
 {
     let mut root = start.root;
     let mut rest = start.rest;
-    let mut left = pairs;
-    while left > 0 {
-        left -= 1;
+    for left in (0..pairs).rev() {
         let next = rest * 4 + (word >> (2 * left)) % 4;
         let step = root * 4 + 1;
         if step <= next {
@@ -61,10 +59,7 @@ fn digits(start: Root, word: u64, pairs: u64) -> Root
             root = root * 2;
         }
     }
-    Root {
-        root: root,
-        rest: rest,
-    }
+    Root { root, rest }
 }
 
 // The root of N * base^2 + mid * base + low from that of N, by one division.
@@ -80,7 +75,7 @@ fn refine(start: Root, base: u64, mid: u64, low: u64) -> Root
     let square = digit * digit;
     if square <= rest {
         Root {
-            root: root,
+            root,
             rest: rest - square,
         }
     } else {
@@ -133,13 +128,11 @@ fn half_root(hi: u64) -> Root
 {
     let root = guess(hi);
     let square = root * root;
-    if square <= hi {
-        if hi - square <= root * 2 {
-            return Root {
-                root: root,
-                rest: hi - square,
-            };
-        }
+    if square <= hi && hi - square <= root * 2 {
+        return Root {
+            root,
+            rest: hi - square,
+        };
     }
     let none = Root { root: 0, rest: 0 };
     digits(none, hi, 28)
@@ -168,10 +161,7 @@ fn square(m: u64) -> Wide
     let cross = high * low * 2;
     let lo = low * low + cross % BASE * BASE;
     let hi = high * high + (cross >> 27) + (lo >> 54);
-    Wide {
-        hi: hi,
-        lo: lo % WORD,
-    }
+    Wide { hi, lo: lo % WORD }
 }
 
 // w / 2^n, for an n up to 54.
@@ -186,8 +176,8 @@ fn shrink(w: Wide, n: u64) -> Cut
     let hi = w.hi / unit;
     let lo = w.hi % unit * over + w.lo / unit;
     Cut {
-        hi: hi,
-        lo: lo,
+        hi,
+        lo,
         lost: w.lo % unit,
     }
 }
@@ -216,7 +206,7 @@ fn fourth(root: u64, rest: u64) -> u64
 {
     let q = root / 4;
     let r = root % 4;
-    q + bits::pick((r > 2) | ((r == 2) & ((rest > 0) | (q % 2 == 1))), 1, 0)
+    q + base::choose((r > 2) | ((r == 2) & ((rest > 0) | (q % 2 == 1))), 1, 0)
 }
 
 // The pattern of q * 2^k units, or of infinity where that is too large.
@@ -238,8 +228,8 @@ fn rounded(x: u64, root: u64, rest: u64) -> u64
         × ((s : ℕ) → Twice s (2 * x) root rest → of_bits binary64 result ≡ round_root binary64 s) }
 {
     let short = root < WORD;
-    let digits = bits::pick(short, root * 2, root);
-    let scale = bits::pick(short, x, x + 1);
+    let digits = base::choose(short, root * 2, root);
+    let scale = base::choose(short, x, x + 1);
     assemble(fourth(digits, rest), scale)
 }
 

@@ -14,8 +14,8 @@ use Rattle.front.specs.declared.Event.TheVariants.{Stalled, Never, Collapse, Spl
 use Rattle.front.specs.declared.Front.{Front}
 use Rattle.front.specs.declared.Loaded.{Loaded}
 use Rattle.front.specs.declared.Sweep.{Sweep}
-use Rattle.front.specs.declared.Vertex.{Vertex}
-use Rattle.front.specs.declared.Vertex.TheVariants.{NoVertex, Moving}
+use Rattle.front.specs.declared.Moving.{Moving}
+use Rattle.std.specs.Prelude.{Option, None, Some}
 use Rattle.math.specs.Number.{add}
 use Rattle.error.specs.Refusals.{number, values, granted}
 use Rattle.base.specs.Loop.{rounds}
@@ -39,10 +39,10 @@ module _ (d : Float) (s : Sweep) where
   unfolding sweep_refused
   refused_other r h = record { other = h }
 
-  split_other : (f : List Edge) (at by : ℕ) (t : Float) (v : Vertex) → OtherSweep (split_at d s f at by t v)
+  split_other : (f : List Edge) (at by : ℕ) (t : Float) (v : Option Moving) → OtherSweep (split_at d s f at by t v)
   unfolding split_at split_of split_into swept_split swept_divide swept_join number values
-  split_other f at by t NoVertex = refused_other (Splits d) (splits_other d)
-  split_other f at by t (Moving p v) =
+  split_other f at by t None = refused_other (Splits d) (splits_other d)
+  split_other f at by t (Some m) =
       both OtherSweep (ltb (free f) 128) (both OtherSweep (one_ring f at by) (record { other = granted_other }) (record { other = granted_other }))
       (refused_other (Slots 129) (record { no = λ q. omega arith }))
 

@@ -1,5 +1,5 @@
 -- No check of a ring and no piece is refused by 18. Assumes nothing.
-use Prim.Native.Nat.{ℕ, ◌-◌}
+use Prim.Native.Nat.{ℕ}
 use mathlib.Core.Logic.{◌≢◌}
 use mathlib.Core.Bool.{Bool, false}
 use mathlib.Core.List.{List}
@@ -10,8 +10,8 @@ use Rattle.plane.specs.declared.PlanarPoint.{PlanarPoint}
 use Rattle.error.specs.declared.Refusal.{Refusal}
 use Rattle.error.specs.declared.Refusal.TheVariants.{Granted, Few, Repeated, Flat, Splits, Collapses}
 use Rattle.ring_check.specs.declared.Checked.{Checked}
-use Rattle.ring_cross.specs.declared.Crossing.{Crossing}
-use Rattle.ring_cross.specs.declared.Crossing.TheVariants.{Simple, Edges}
+use Rattle.std.specs.Prelude.{Option, None, Some}
+use Rattle.ring_cross.specs.declared.EdgePair.{EdgePair}
 use Rattle.front.specs.declared.Walk.{Walk}
 use Rattle.offset.specs.declared.Piece.{Piece}
 use Rattle.offset.specs.declared.Piece.TheVariants.{Shrunk, Failed, Whole}
@@ -57,10 +57,10 @@ range_other room ring ps n =
     rounds_keep (range_step room ring ps n) (λ k r. Other r) Granted granted_other
     (λ k r h. both Other (granted r) (vertex_other room ring n k (vertex_at ps k)) h) n
 
-crossed_other : (ring n : ℕ) (back : Bool) (c : Crossing) → Other (crossed ring n back c)
+crossed_other : (ring n : ℕ) (back : Bool) (c : Option EdgePair) → Other (crossed ring n back c)
 unfolding crossed number values
-crossed_other ring n back Simple = granted_other
-crossed_other ring n back (Edges i j) = both Other back (record { no = λ q. omega arith }) (record { no = λ q. omega arith })
+crossed_other ring n back None = granted_other
+crossed_other ring n back (Some p) = both Other back (record { no = λ q. omega arith }) (record { no = λ q. omega arith })
 
 refused_other : (r : Refusal) → Other r → OtherCheck (refused r)
 unfolding refused

@@ -1,13 +1,12 @@
 -- What holds of the answers about an outline, whatever the shape, the side and the distance, finite or not: demand 3 of what is handed
 -- back, the empty shape beside a refusal, the counts before loading, what an accepted offset has passed, and lent output. Proved in
 -- `proofs/DemandAnswered.antt`, `proofs/Counted.antt`, `proofs/Accepted.antt` and `proofs/Lent.antt`. Assumes nothing.
-use Rattle.std.specs.Prelude.{ℕ, ◌+◌, ◌*◌, ◌≤◌, ◌<◌, ◌≡◌, Bool, true, false, cond, List, [], ◌∷◌, get_or, length, replicate, Float}
+use Rattle.std.specs.Prelude.{ℕ, ◌+◌, ◌*◌, ◌≤◌, ◌<◌, ◌≡◌, Bool, true, false, cond, List, [], ◌∷◌, get_or, length, replicate, Float, None}
 use Rattle.std.specs.Float.{nan}
 use Rattle.std.specs.Float.Ieee.{lt, le, eq}
 use Rattle.plane.specs.declared.Containment.TheVariants.{Inside, Outside}
 use Rattle.error.specs.declared.Refusal.{Refusal}
 use Rattle.error.specs.declared.Refusal.TheVariants.{Granted, Shape}
-use Rattle.ring_cross.specs.declared.Crossing.TheVariants.{Simple}
 use Rattle.outline.specs.declared.Outline.{Outline}
 use Rattle.math.specs.Number
 use Rattle.math.specs.Number.{zero_float, one, add, mul}
@@ -121,7 +120,7 @@ OffsetBefore = (o : Outline) (outward : Bool) (d : Float) → BeforeLoading o ou
 
 pub record KeptClear (o : Outline) (outward : Bool) (d : Float) (q : Outline) : Type 0 where
   -- it has passed `check_simple`
-  pub simple : check_simple q.points q.count false ≡ Simple
+  pub simple : check_simple q.points q.count false ≡ None
   -- each vertex tests on the right side
   pub side : (k : ℕ) → k < q.count → ring_contains o.points o.count (vertex_at q.points k) ≡ cond outward Outside Inside
   -- its gap is at least distance − 1e-9 × (1 + distance + extent)

@@ -15,10 +15,8 @@ use Rattle.plane.specs.Plane.{sub, dot}
 use Rattle.plane.specs.Points.{length_of, distance_to}
 use Rattle.segment.specs.Segments.{closest_on_segment}
 use Rattle.ring.specs.Ring.{vertex_at, edge_end}
-use Rattle.ring_near.specs.declared.Nearest.{Nearest}
 use Rattle.ring_near.specs.Near
 use Rattle.ring_near.specs.Near.{nearest, clearly}
-use Rattle.ring_near.proofs.Rounded
 use Rattle.ring_near.proofs.Clear.{clearly_less}
 use Rattle.ring_near.proofs.Least.{nearest_foot}
 use Rattle.offset_clear.specs.Gaps.{falls_short}
@@ -70,9 +68,6 @@ module _ (ps : List Float) (n : ℕ) (p : PlanarPoint) where
     reaches_gap r h e =
         let c = (and-eq-true_iff (ltb 0 n) s).0 h in
         e ∙ ap (le least) (sym ((nearest_foot ps n p).below (gap_finite (ltb-true 0 n c.0) (rw (← ea, ← eb) (sym es ∙ c.1)))))
-
-  pub reaches_foot : (least : Float) (t : Nearest) (g : Float) → t ≡ nearest ps n p → g ≡ distance_to p t.foot → le least g ≡ le least (distance_to p (nearest ps n p).foot)
-  reaches_foot least t g e f = ap (le least) (f ∙ ap (λ (x : Nearest). distance_to p x.foot) e)
 
 -- ---- by the nearest point, or by the least gap
 module _ (foot : Bool) (least x y : Float) (r : Bool) where

@@ -1,4 +1,4 @@
--- Walks that end at the first edge that falls short, and at the first vertex that is not clear. Assumes nothing.
+-- A walk that ends at the first edge that falls short, and the side and gap of one vertex. Assumes nothing.
 use Prim.Native.Nat.{ℕ, ◌+◌, ◌≤◌, ◌<◌}
 use mathlib.Core.Path.{◌≡◌, refl, sym, ap, ◌∙◌, subst}
 use mathlib.Core.Bool.{Bool, true, false, not, ◌&&◌}
@@ -6,10 +6,9 @@ use mathlib.Core.List.{List}
 use lib.Dec.{T}
 use lib.Ieee.{Float, binary64, lt, le, eq, fits}
 use lib.Ieee.Fits.{sub-fits}
-use borrow.Author.Tests.{not-true, not-false}
 use Rattle.base.specs.Loop.{rounds}
 use Rattle.base.proofs.Laws.{ends}
-use Rattle.base.proofs.Tests.{found_at, none_yet, tests_on, test_fails, tests_end}
+use Rattle.base.proofs.Tests.{found_at, none_yet}
 use Rattle.plane.specs.declared.PlanarPoint.{PlanarPoint}
 use Rattle.plane.specs.declared.Containment.{Containment}
 use Rattle.plane.specs.declared.Containment.TheVariants.{Inside, OnBoundary, Outside}
@@ -21,7 +20,7 @@ use Rattle.ring.specs.Ring.{vertex_at, edge_end}
 use Rattle.ring_contain.specs.Contains.{ring_contains}
 use Rattle.ring_near.specs.Near.{nearest, clearly}
 use Rattle.ring_near.proofs.Leads.{not_shorter}
-use Rattle.offset.specs.Clear.{is_inside, is_outside, right_side, every_step, every_vertex}
+use Rattle.offset.specs.Clear.{is_inside, is_outside, right_side}
 use Rattle.offset_clear.specs.Gaps.{falls_short}
 use Rattle.offset_clear.specs.Rings.{away, clear_by}
 use Rattle.offset_clear.proofs.Folds.{short_step, gap_short, gap_long}
@@ -97,21 +96,3 @@ module _ (foot outward : Bool) (least : Float) (ps : List Float) (n : ℕ) (p : 
   pub clear_wrong : r ≡ false → false ≡ clear_by foot outward least ps n p
   unfolding clear_by
   clear_wrong i = and_wrong _ _ (side_told i)
-
--- ---- one vertex after the other
-module _ (test : PlanarPoint → Bool) (qs : List Float) (k : ℕ) (all : rounds (every_step test qs) k true ≡ true) where
-  vertex_told : (q : PlanarPoint) (r t : Bool) → q ≡ vertex_at qs k → r ≡ test q → r ≡ t → test (vertex_at qs k) ≡ t
-  vertex_told q r t e h i = ap test (sym e) ∙ sym h ∙ i
-
-  pub vertex_passes : (q : PlanarPoint) (r : Bool) → q ≡ vertex_at qs k → r ≡ test q → not r ≡ false → rounds (every_step test qs) (k + 1) true ≡ true
-  unfolding every_step
-  vertex_passes q r e h i = tests_on (every_step test qs) (λ (j : ℕ). test (vertex_at qs j)) (λ (j : ℕ) (s : Bool). refl) k k all (vertex_told q r true e h (not-false r i))
-
-  pub vertex_fails : (m : ℕ) → k < m → (q : PlanarPoint) (r : Bool) → q ≡ vertex_at qs k → r ≡ test q → not r ≡ true → every_vertex test qs m ≡ false
-  unfolding every_vertex every_step
-  vertex_fails m l q r e h i =
-      test_fails (every_step test qs) (λ (j : ℕ). test (vertex_at qs j)) (λ (j : ℕ) (s : Bool). refl) m k all l (vertex_told q r false e h (not-true r i))
-
-  pub all_pass : (m : ℕ) → k ≤ m → m ≤ k → every_vertex test qs m ≡ true
-  unfolding every_vertex every_step
-  all_pass m l h = tests_end (every_step test qs) (λ (j : ℕ). test (vertex_at qs j)) (λ (j : ℕ) (s : Bool). refl) m k all l h

@@ -15,6 +15,7 @@ ghost use Rattle.offset_clear.specs.Rings;
 use plane::{Containment, PlanarPoint};
 
 // An inset's vertices lie inside the source, an outset's outside.
+// Stays: no plainer, since each of the three places has an answer of its own.
 pub fn right_side(outward: bool, c: Containment) -> bool
     ensures { result ≡ Clear.right_side outward c }
 {
@@ -41,14 +42,12 @@ pub(crate) fn gap_reaches(ps: &[f64], n: usize, p: PlanarPoint, least: f64) -> b
     ensures { result ≡ le least (Near.nearest ps.now n p).gap }
 {
     let mut a = ring::vertex_at(ps, 0);
-    let mut k = 0;
-    while k < n {
+    for k in 0..n {
         let b = ring::edge_end(ps, n, k);
         if falls_short(p, a, b, least) {
             return false;
         }
         a = b;
-        k += 1;
     }
     least == least
 }
@@ -102,60 +101,41 @@ pub(crate) fn clear_of(
     false
 }
 
-// Whether every vertex of the second ring is clear of the first.
-pub(crate) fn keeps_clear<'a>(
+// Whether every vertex of the second ring is clear of the first, and no edge of it meets the first.
+pub(crate) fn keeps_clear(
     foot: bool,
     outward: bool,
     least: f64,
-    ps: &'a [f64],
+    ps: &[f64],
     n: usize,
-    qs: &'a [f64],
+    qs: &[f64],
     m: usize,
 ) -> bool
-    ensures { result ≡ Clear.every_vertex (Rings.clear_by foot outward least ps.now n) qs.now m }
+    ensures { result ≡ (Clear.every_vertex (Rings.clear_by foot outward least ps.now n) qs.now m && not
+        (Meet.rings_meet qs.now m ps.now n)) }
 {
-    let mut k = 0;
-    while k < m {
-        let q = ring::vertex_at(qs, k);
-        if !clear_of(foot, outward, least, ps, n, q) {
-            return false;
-        }
-        k += 1;
-    }
-    true
+    let clear = (0..m).all(|k| clear_of(foot, outward, least, ps, n, ring::vertex_at(qs, k)));
+    clear && !ring_cross::rings_meet(qs, m, ps, n)
 }
 
 // Whether the second ring keeps clear of the first and meets it nowhere.
-pub fn stays_clear<'a>(
-    ps: &'a [f64],
-    n: usize,
-    qs: &'a [f64],
-    m: usize,
-    outward: bool,
-    least: f64,
-) -> bool
+pub fn stays_clear(ps: &[f64], n: usize, qs: &[f64], m: usize, outward: bool, least: f64) -> bool
     ensures { result ≡ (Offsets.keeps_clear outward least ps.now n qs.now m && not
         (Meet.rings_meet qs.now m ps.now n)) }
 {
-    if keeps_clear(false, outward, least, ps, n, qs, m) {
-        return !ring_cross::rings_meet(qs, m, ps, n);
-    }
-    false
+    keeps_clear(false, outward, least, ps, n, qs, m)
 }
 
 // The same by the ring's nearest point, for a region's inset.
-pub fn ring_stays_clear<'a>(
+pub fn ring_stays_clear(
     outward: bool,
     least: f64,
-    ps: &'a [f64],
+    ps: &[f64],
     n: usize,
-    qs: &'a [f64],
+    qs: &[f64],
     m: usize,
 ) -> bool
     ensures { result ≡ Rings.ring_stays_clear outward least ps.now n qs.now m }
 {
-    if keeps_clear(true, outward, least, ps, n, qs, m) {
-        return !ring_cross::rings_meet(qs, m, ps, n);
-    }
-    false
+    keeps_clear(true, outward, least, ps, n, qs, m)
 }

@@ -1,10 +1,9 @@
 -- A round over the slots of a finished front, and where it stops. Assumes nothing.
 use Prim.Native.Nat.{ℕ, ◌+◌, ◌≤◌, ◌<◌}
-use mathlib.Core.Bool.{Bool, true, false, cond, not, ◌&&◌}
+use mathlib.Core.Bool.{Bool, true, false, cond, not, ◌&&◌, ◌||◌}
 use mathlib.Core.List.{List}
 use mathlib.Core.Path.{◌≡◌, refl, sym, ap, ◌∙◌}
 use native.Mathlib.Omega.{arith}
-use borrow.Author.Tests.{not-true, not-false}
 use lib.ListN.{get_or, replicate}
 use lib.Ieee.{Float}
 use Rattle.error.specs.declared.Refusal.{Refusal}
@@ -59,6 +58,11 @@ pub starts_as : (f : List Edge) (seen : List Bool) (k : ℕ) (b : Bool) → k < 
 unfolding starts
 starts_as f seen k b l h = ap (λ (e : Edge). e.alive && not (get_or seen k false)) (edge_in f k l) ∙ h
 
+-- the test of a piece, as the code makes it
+right : (b found t : Bool) → (not b || found) ≡ t → (b && not found) ≡ not t
+right true found t h = ap not h
+right false found t h = ap not h
+
 module _ (f : List Edge) (origin : PlanarPoint) (outward : Bool) (d tolerance : Float) (k place : ℕ) (found : Bool) (shape : Outline) (seen : List Bool) (l : k < 128)
     (so_far : rounds (piece_step f origin outward d tolerance) k no_visits ≡ visits_at (pieces_at Granted found shape) place seen) where
   round : (b : Bool) → starts f seen k ≡ b → rounds (piece_step f origin outward d tolerance) (k + 1) no_visits
@@ -107,17 +111,17 @@ module _ (f : List Edge) (origin : PlanarPoint) (outward : Bool) (d tolerance : 
       test t h = sym (ap (λ (z : Bool). z && not found) (eb ∙ ap (expected outward) ea)) ∙ h
 
       -- it is the piece
-      pub keeps : (o : Outline) → not (b && not found) ≡ false → o ≡ stored_outline w.points n back →
+      pub keeps : (o : Outline) → (not b || found) ≡ false → o ≡ stored_outline w.points n back →
           rounds (piece_step f origin outward d tolerance) (k + 1) no_visits ≡ visits_at (pieces_at Granted true o) (place + 1) w.seen
       unfolding with_piece
-      keeps o h e = visits_on (Whole n back) whole ∙ rw (test true (not-false _ h)) (ap (λ (z : Outline). visits_at (pieces_at Granted true z) (place + 1) w.seen) (sym e))
+      keeps o h e = visits_on (Whole n back) whole ∙ rw (test true (right b found false h)) (ap (λ (z : Outline). visits_at (pieces_at Granted true z) (place + 1) w.seen) (sym e))
 
       -- it is another piece, or lies on the wrong side
-      pub another : (y : Pieces) → not (b && not found) ≡ true → y ≡ pieces_refused (Splits d) → y ≡ pieces f origin outward d tolerance
+      pub another : (y : Pieces) → (not b || found) ≡ true → y ≡ pieces_refused (Splits d) → y ≡ pieces f origin outward d tolerance
       unfolding with_piece pieces_refused granted number values
       another y h e =
           ends_at y (ap (λ (z : Pieces). granted z.refusal) e)
-          (visits_on (Whole n back) whole ∙ rw (test false (not-true _ h)) (ap (λ (z : Pieces). visits_at z (place + 1) w.seen) (sym e)))
+          (visits_on (Whole n back) whole ∙ rw (test false (right b found true h)) (ap (λ (z : Pieces). visits_at z (place + 1) w.seen) (sym e)))
 
 -- a vertex of the ring is lost: that is refused, too
 pub lost_fails : (f : List Edge) (origin : PlanarPoint) (outward : Bool) (d tolerance : Float) (k place : ℕ) (found : Bool) (shape : Outline) (seen : List Bool) (l : k < 128) →

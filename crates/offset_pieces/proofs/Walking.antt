@@ -1,91 +1,62 @@
 -- The walk round one ring, inside the round over the slots. Assumes nothing.
-use Prim.Native.Nat.{ℕ, ◌+◌, ◌-◌, ◌*◌, ◌≤◌, ◌<◌}
-use native.Mathlib.Nat.{not-le_of_lt, lt_of_lt_of_le}
+use Prim.Native.Nat.{ℕ, ◌+◌, ◌*◌, ◌≤◌, ◌<◌}
 use native.Mathlib.Omega.{arith}
-use mathlib.Core.Bool.{Bool, true, false, cond, ◌||◌}
+use mathlib.Core.Bool.{Bool, true, false, not, ◌&&◌}
 use mathlib.Core.List.{List}
-use mathlib.Core.Path.{◌≡◌, refl, ◌∙◌}
-use borrow.Author.Tests.{eqb-true, eqb-false}
+use mathlib.Core.Path.{◌≡◌, refl, sym, ap, ◌∙◌}
+use mathlib.Mathlib.Data.Bool.Basic.{and_elim_left, and_elim_right}
+use borrow.Author.Tests.{ltb-true, ltb-false, not-true}
 use lib.Dec.{ltb, eqb}
-use lib.ListN.{get_or, set, length, length-set, replicate}
+use lib.ListN.{set, replicate}
 use lib.Ieee.{Float}
 use Rattle.base.specs.Loop.{rounds}
-use Rattle.base.proofs.Laws.{no_round}
+use Rattle.base.proofs.Laws.{no_round, ends, stays_to}
 use Rattle.math.specs.Number.{zero_float}
 use Rattle.plane.specs.declared.PlanarPoint.{PlanarPoint}
 use Rattle.front.specs.declared.Edge.{Edge}
-use Rattle.front.specs.declared.Place.TheVariants.{Nowhere, There}
+use Rattle.std.specs.Prelude.{None, Some}
 use Rattle.front.specs.Edges.{edge, vertex}
 use Rattle.front.specs.Finished.{walk_step, walk_from, walk}
 use Rattle.front_walk.specs.Placed.{placed}
-use Rattle.front_walk.proofs.RingWalk.{walk_at, walk_loses, walk_goes, walk_closes, walk_ends}
-
-pub in_room : (count end : ℕ) → end ≤ 128 → count < end → count < 128
-in_room count end h l = lt_of_lt_of_le l h
-
-pub walk_falls : (count end : ℕ) → end ≤ 128 → count < end → 128 - (count + 1) < 128 - count
-walk_falls count end h l = let r : count < 128 = in_room count end h l in omega arith
+use Rattle.front_walk.proofs.RingWalk.{walk_at, walk_loses, stepped}
 
 module _ (f : List Edge) (t : Float) (origin : PlanarPoint) (first : ℕ) (seen₀ : List Bool) where
-  -- after `count` of `end` steps: the ring goes on, or the walk is the definition's, closed or not
-  pub record Walking (seen : List Bool) (points : List Float) (at count end : ℕ) : Type 0 where
-    pub room : end ≤ 128
-    pub long : length seen ≡ 128
-    pub wide : length points ≡ 256
-    pub ahead : count < end → rounds (walk_step f t origin first) count (walk_from first seen₀) ≡ walk_at at seen points count false false
-    pub done : end ≤ count → (closed : Bool) × (walk_at at seen points count closed false ≡ walk f t origin first seen₀)
+  -- after `count` steps, the ring closed or not
+  pub record Walking (seen : List Bool) (points : List Float) (at count : ℕ) (closed : Bool) : Type 0 where
+    pub room : count ≤ 128
+    pub same : rounds (walk_step f t origin first) count (walk_from first seen₀) ≡ walk_at at seen points count closed false
 
-  pub sets_out : length seen₀ ≡ 128 → Walking seen₀ (replicate 256 zero_float) first 0 128
+  pub sets_out : Walking seen₀ (replicate 256 zero_float) first 0 false
   unfolding walk_from
-  sets_out h = record {
-    room = omega arith;
-    long = h;
-    wide = refl;
-    ahead = λ l. no_round _ _;
-    done = λ l. absurd (not-le_of_lt (omega arith) l);
-  }
+  sets_out = record { room = omega arith; same = no_round _ _ }
 
-  module _ (seen : List Bool) (points : List Float) (at count end : ℕ) (w : Walking seen points at count end) (l : count < end) where
-    -- a vertex is lost
-    pub loses : placed origin (vertex f at t) ≡ Nowhere → walk_at at seen points count false true ≡ walk f t origin first seen₀
-    loses e = walk_loses f t origin first at count seen₀ seen points (w.ahead l) (in_room count end w.room l) e
-
-    -- one vertex more
-    pub walks_on : (s : ℕ) (e : Edge) (p : PlanarPoint) → s ≡ cond (ltb at 128) at 0 → e ≡ edge f at → placed origin (vertex f at t) ≡ There p →
-        (last : ℕ) → last ≡ cond (eqb e.next first) (count + 1) 128 →
-        Walking (set seen s (get_or seen s false || ltb at 128)) (set (set points (2 * count) p.east) (2 * count + 1) p.north) e.next (count + 1) last
-    walks_on s e p read is there last h = go (eqb e.next first) refl h
+  module _ (seen : List Bool) (points : List Float) (at count : ℕ) (closed : Bool) (w : Walking seen points at count closed) where
+    -- the walk is the definition's
+    pub walked : (not closed && ltb count 128) ≡ false → walk_at at seen points count closed false ≡ walk f t origin first seen₀
+    unfolding walk walk_step
+    walked h = go closed w.same h
       where
-        after : List Bool
-        after = set seen s (get_or seen s false || ltb at 128)
+        go : (b : Bool) → rounds (walk_step f t origin first) count (walk_from first seen₀) ≡ walk_at at seen points count b false → (not b && ltb count 128) ≡ false →
+            walk_at at seen points count b false ≡ rounds (walk_step f t origin first) 128 (walk_from first seen₀)
+        go true e i = sym (stays_to (walk_step f t origin first) (walk_from first seen₀) (walk_at at seen points count true false) count 128 w.room e (λ m. refl))
+        go false e i = ends (walk_step f t origin first) (walk_from first seen₀) _ count 128 w.room (ltb-false count 128 i) (sym e)
 
-        stored : List Float
-        stored = set (set points (2 * count) p.east) (2 * count + 1) p.north
+    module _ (goes : (not closed && ltb count 128) ≡ true) where
+      so_far : rounds (walk_step f t origin first) count (walk_from first seen₀) ≡ walk_at at seen points count false false
+      so_far = w.same ∙ ap (λ (b : Bool). walk_at at seen points count b false) (not-true closed (and_elim_left (not closed) (ltb count 128) goes))
 
-        inside : count < 128
-        inside = in_room count end w.room l
+      pub inside : count < 128
+      inside = ltb-true count 128 (and_elim_right (not closed) (ltb count 128) goes)
 
-        long_still : length after ≡ 128
-        long_still = length-set seen s (get_or seen s false || ltb at 128) ∙ w.long
+      -- a vertex is lost
+      pub loses : placed origin (vertex f at t) ≡ None → walk_at at seen points count false true ≡ walk f t origin first seen₀
+      loses e = walk_loses f t origin first at count seen₀ seen points so_far inside e
 
-        wide_still : length stored ≡ 256
-        wide_still = length-set (set points (2 * count) p.east) (2 * count + 1) p.north ∙ length-set points (2 * count) p.east ∙ w.wide
-
-        on : (e.next ≡ first → ⊥) → rounds (walk_step f t origin first) (count + 1) (walk_from first seen₀) ≡ walk_at e.next after stored (count + 1) false false
-        on = walk_goes f t origin first at count seen₀ seen points (w.ahead l) s e p w.long read is there
-
-        go : (b : Bool) → eqb e.next first ≡ b → last ≡ cond b (count + 1) 128 → Walking after stored e.next (count + 1) last
-        go true i j = record {
-          room = omega (arith, inside, j);
-          long = long_still;
-          wide = wide_still;
-          ahead = λ k. absurd (not-le_of_lt k (omega (arith, j)));
-          done = λ k. (true, walk_closes f t origin first at count seen₀ seen points (w.ahead l) s e p w.long read is there inside (eqb-true _ _ i));
-        }
-        go false i j = record {
-          room = omega (arith, j);
-          long = long_still;
-          wide = wide_still;
-          ahead = λ k. on (eqb-false _ _ i);
-          done = λ k. (false, walk_ends f t origin first e.next (count + 1) seen₀ after stored (on (eqb-false _ _ i)) (omega (arith, inside)) (omega (arith, j, k)));
-        }
+      -- one vertex more
+      pub walks_on :
+          (e : Edge) (p : PlanarPoint) (after : List Bool) → e ≡ edge f at → after ≡ set seen at true → placed origin (vertex f at t) ≡ Some p →
+          Walking after (set (set points (2 * count) p.east) (2 * count + 1) p.north) e.next (count + 1) (eqb e.next first)
+      walks_on e p after is mark there = record {
+        room = omega (arith, inside);
+        same = stepped f t origin first at count seen₀ seen points so_far e p after is mark there (eqb e.next first) refl;
+      }

@@ -7,7 +7,7 @@ ghost use Rattle.offset.specs.Rings;
 ghost use Rattle.offset_pieces.specs.Numbers;
 
 use error::Refusal;
-use front::{Edge, Place};
+use front::Edge;
 use offset::{Piece, Pieces};
 use plane::PlanarPoint;
 use ring_check::Checked;
@@ -27,13 +27,12 @@ pub(crate) fn vanished(ps: &[f64], n: usize, tolerance: f64, r: Refusal) -> bool
 pub(crate) fn checked_piece(d: f64, tolerance: f64, ps: &[f64], n: usize, c: Checked) -> Piece
     ensures { result ≡ Numbers.checked_piece d tolerance ps.now n c }
 {
-    let refusal = c.refusal;
-    if refusal.granted() {
+    if c.refusal.granted() {
         Piece::Whole(c.count, c.back)
-    } else if vanished(ps, n, tolerance, refusal) {
+    } else if vanished(ps, n, tolerance, c.refusal) {
         Piece::Shrunk
     } else {
-        Piece::Failed(refusal.offset_failure(d))
+        Piece::Failed(c.refusal.offset_failure(d))
     }
 }
 
@@ -94,38 +93,26 @@ pub fn pieces(
     let mut shape = outline::store::no_outline();
     let mut place = 0;
     let mut seen = [false; 128];
-    let mut first = 0;
-    while first < 128 {
-        let slot = first;
-        first += 1;
-        let e = edges[slot];
-        if e.alive & !seen[slot] {
+    for slot in 0..128 {
+        if edges[slot].alive & !seen[slot] {
             let mut points = [0.0; 256];
             let mut at = slot;
             let mut count = 0;
-            let mut end = 128;
-            while count < end {
-                let here = base::choose(at < 128, at, 0);
-                let own = front_lines::edge_or(at < 128, edges[here]);
-                let previous = own.previous;
-                let next = own.next;
-                let before = front_lines::edge_or(
-                    previous < 128,
-                    edges[base::choose(previous < 128, previous, 0)],
-                );
+            let mut closed = false;
+            // Stays: no plainer, since the walk ends where it comes round
+            while !closed & (count < 128) {
+                let own = front_lines::edge_at(&edges, at);
+                let before = front_lines::edge_at(&edges, own.previous);
                 let line = front_lines::edge_line(before);
-                let vertex = front_walk::placed(line, own, d, origin);
-                match vertex {
-                    Place::Nowhere => return pieces_refused(Refusal::Splits(d)),
-                    Place::There(p) => {
-                        seen[here] = seen[here] | (at < 128);
-                        points[2 * count] = p.east;
-                        points[2 * count + 1] = p.north;
-                        at = next;
-                        count += 1;
-                        end = base::choose(next == slot, count, 128);
-                    }
-                }
+                let Some(p) = front_walk::placed(line, own, d, origin) else {
+                    return pieces_refused(Refusal::Splits(d));
+                };
+                front_lines::set_at(&mut seen, at, true);
+                points[2 * count] = p.east;
+                points[2 * count + 1] = p.north;
+                at = own.next;
+                count += 1;
+                closed = at == slot;
             }
             let piece = offset_piece(128, place, d, tolerance, false, &points, count);
             place += 1;
@@ -134,12 +121,10 @@ pub fn pieces(
                 Piece::Failed(r) => return pieces_refused(r),
                 Piece::Whole(n, back) => {
                     let area = ring_measure::signed_area(&points, count);
-                    let right = expected(outward, area) & !found;
-                    if !right {
+                    if !expected(outward, area) | found {
                         return pieces_refused(Refusal::Splits(d));
                     }
-                    let stored = outline::store::stored_outline(&points, n, back);
-                    shape = stored;
+                    shape = outline::store::stored_outline(&points, n, back);
                     found = true;
                 }
             }
@@ -147,7 +132,7 @@ pub fn pieces(
     }
     Pieces {
         refusal: Refusal::Granted,
-        found: found,
-        shape: shape,
+        found,
+        shape,
     }
 }

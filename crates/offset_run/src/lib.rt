@@ -20,8 +20,8 @@ const OFFSET_TOLERANCE: f64 = 1e-9;
 pub fn check_distance(d: f64) -> Refusal
     ensures { result ≡ Offsets.check_distance d }
 {
-    let sign = error::choose(d < 0.0, Refusal::Negative(d), Refusal::Granted);
-    error::choose(math::finite(d) & (d <= MAX_DISTANCE), sign, Refusal::Far)
+    let sign = base::choose(d < 0.0, Refusal::Negative(d), Refusal::Granted);
+    base::choose(math::finite(d) & (d <= MAX_DISTANCE), sign, Refusal::Far)
 }
 
 // The slack of the check that every offset vertex keeps the full distance.
@@ -32,15 +32,15 @@ pub fn offset_tolerance(d: f64, extent: f64) -> f64
 }
 
 // What the pieces come to, q being the piece that is left: 16 where none is, and the last checks against the source.
-pub(crate) fn found_refusal<'a>(
-    ps: &'a [f64],
+pub(crate) fn found_refusal(
+    ps: &[f64],
     n: usize,
     outward: bool,
     d: f64,
     tolerance: f64,
     u: Refusal,
     found: bool,
-    qs: &'a [f64],
+    qs: &[f64],
     m: usize,
 ) -> Refusal
     ensures { result ≡
@@ -54,7 +54,7 @@ pub(crate) fn found_refusal<'a>(
         return Refusal::Collapses(d);
     }
     let clear = offset_clear::stays_clear(ps, n, qs, m, outward, d - tolerance);
-    error::choose(clear, Refusal::Granted, Refusal::Splits(d))
+    base::choose(clear, Refusal::Granted, Refusal::Splits(d))
 }
 
 // An answer beside which the shape is empty, with the events that were completed before.
@@ -64,9 +64,9 @@ pub(crate) fn offset_refused(u: Refusal, collapses: usize, divides: usize, joins
     Offset {
         refusal: u,
         shape: store::no_outline(),
-        collapses: collapses,
-        divides: divides,
-        joins: joins,
+        collapses,
+        divides,
+        joins,
     }
 }
 
@@ -77,23 +77,19 @@ pub(crate) fn offset_moved(ps: &[f64], n: usize, outward: bool, d: f64) -> Offse
     let origin = ring::vertex_at(ps, 0);
     let loaded = front_load::load_outer(ps, n, outward, origin, d);
     let s = front_sweep::advance(d, loaded);
-    let refusal = s.refusal;
-    if !refusal.granted() {
-        return offset_refused(refusal, s.collapses, s.divides, s.joins);
+    if !s.refusal.granted() {
+        return offset_refused(s.refusal, s.collapses, s.divides, s.joins);
     }
     let tolerance = offset_tolerance(d, ring_measure::extent(ps, n));
-    let edges = s.edges;
-    let p = offset_pieces::pieces(edges, origin, outward, d, tolerance);
-    let found = p.found;
-    let asked = p.refusal;
+    let p = offset_pieces::pieces(s.edges, origin, outward, d, tolerance);
     let u = found_refusal(
         ps,
         n,
         outward,
         d,
         tolerance,
-        asked,
-        found,
+        p.refusal,
+        p.found,
         &p.shape.points,
         p.shape.count,
     );
@@ -155,14 +151,14 @@ pub fn outset(o: Outline, d: f64) -> Offset
 }
 
 // An answer's numbers to lent output: 20 is asked last.
-pub(crate) fn write_offset<'a>(
+pub(crate) fn write_offset(
     given: Refusal,
-    ps: &'a [f64],
+    ps: &[f64],
     n: usize,
     collapses: usize,
     divides: usize,
     joins: usize,
-    out: &'a mut [f64],
+    out: &mut [f64],
 ) -> OffsetWritten
     requires { n ≤ 128 }
     ensures answered { result ≡
@@ -171,20 +167,20 @@ pub(crate) fn write_offset<'a>(
     ensures written { out.new ≡ Lent.offset_over (Found.answer_of given ps.now n collapses divides joins) out.old }
 {
     let needed = 2 * n;
-    let asked = error::choose(
+    let asked = base::choose(
         needed <= out.len(),
         Refusal::Granted,
         Refusal::Short(needed),
     );
-    let r = error::choose(given.granted(), asked, given);
+    let r = base::choose(given.granted(), asked, given);
     let granted = r.granted();
     outline_lent::write_numbers(ps, base::choose(granted, needed, 0), out);
     OffsetWritten {
         refusal: r,
         count: base::choose(granted, n, 0),
-        collapses: collapses,
-        divides: divides,
-        joins: joins,
+        collapses,
+        divides,
+        joins,
     }
 }
 
@@ -194,9 +190,8 @@ pub fn offset_into(o: Outline, outward: bool, d: f64, out: &mut [f64]) -> Offset
     ensures written { out.new ≡ Lent.written_offset o outward d out.old }
 {
     let a = offset(o, outward, d);
-    let given = a.refusal;
     write_offset(
-        given,
+        a.refusal,
         &a.shape.points,
         a.shape.count,
         a.collapses,

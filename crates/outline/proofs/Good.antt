@@ -9,8 +9,8 @@ use lib.ListN.{get_or}
 use lib.Ieee.{Float, nan, le}
 use Rattle.base.proofs.Laws.{rounds_same}
 use Rattle.base.proofs.Tests.{pass_all}
-use Rattle.ring_cross.specs.declared.Crossing.{Crossing}
-use Rattle.ring_cross.specs.declared.Crossing.TheVariants.{Simple}
+use Rattle.std.specs.Prelude.{Option, None}
+use Rattle.ring_cross.specs.declared.EdgePair.{EdgePair}
 use Rattle.math.specs.Number.{abs}
 use Rattle.ring.specs.Ring.{vertex_at, following, source, stored_at}
 use Rattle.ring.proofs.Vertices.{following_lt, by_pairs, number_same}
@@ -31,17 +31,17 @@ module _ (ps qs : List Float) (n : ℕ) (back : Bool) (same : (k : ℕ) → k < 
   unfolding crossing
   crossing_same i j h l = rw (read i h, read (following n i) (following_lt n i h), read j l, read (following n j) (following_lt n j l)) refl
 
-  pair_same : (i : ℕ) → i < n → (k : ℕ) → k < n - (i + 1) → (s : Crossing) → pair_step qs n false i k s ≡ pair_step ps n back i k s
+  pair_same : (i : ℕ) → i < n → (k : ℕ) → k < n - (i + 1) → (s : Option EdgePair) → pair_step qs n false i k s ≡ pair_step ps n back i k s
   unfolding pair_step
   pair_same i h k l s = rw (crossing_same i (i + 1 + k) h (omega arith)) refl
 
-  edge_same : (i : ℕ) → i < n → (s : Crossing) → edge_step qs n false i s ≡ edge_step ps n back i s
+  edge_same : (i : ℕ) → i < n → (s : Option EdgePair) → edge_step qs n false i s ≡ edge_step ps n back i s
   unfolding edge_step
-  edge_same i h s = rw (rounds_same (pair_step qs n false i) (pair_step ps n back i) (n - (i + 1)) Simple (pair_same i h)) refl
+  edge_same i h s = rw (rounds_same (pair_step qs n false i) (pair_step ps n back i) (n - (i + 1)) None (pair_same i h)) refl
 
   simple_same : check_simple qs n false ≡ check_simple ps n back
   unfolding check_simple
-  simple_same = rounds_same (edge_step qs n false) (edge_step ps n back) n Simple edge_same
+  simple_same = rounds_same (edge_step qs n false) (edge_step ps n back) n None edge_same
 
 -- ---- question 21
 
@@ -60,7 +60,7 @@ pub record GoodRing (room : ℕ) (qs : List Float) (n : ℕ) : Type 0 where
   pub three : 3 ≤ n
   pub fits : n ≤ room
   pub within : (k : ℕ) → k < n → Within (vertex_at qs k)
-  pub simple : check_simple qs n false ≡ Simple
+  pub simple : check_simple qs n false ≡ None
 
 module _ (room : ℕ) (qs : List Float) (n : ℕ) (g : GoodRing room qs n) where
   number_near : (i : ℕ) → i < 2 * n → le (abs (get_or qs i nan)) max_coordinate ≡ true

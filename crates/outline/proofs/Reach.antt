@@ -3,9 +3,8 @@ use Prim.Native.Nat.{ℕ, ◌+◌, ◌*◌, ◌/◌, ◌<◌}
 use native.Mathlib.Nat.{le_refl}
 use native.Mathlib.Omega.{arith}
 use mathlib.Core.Path.{◌≡◌, refl, sym, ◌∙◌}
-use mathlib.Core.Bool.{Bool, true, false, not, ◌&&◌, and-false}
+use mathlib.Core.Bool.{Bool, true, false, ◌&&◌, and-false}
 use mathlib.Core.List.{List}
-use borrow.Author.Tests.{not-true, not-false}
 use lib.ListN.{length, get_or}
 use lib.Ieee.{Float, nan, lt, le, eq}
 use Rattle.math.specs.Number.{abs, finite}
@@ -20,15 +19,15 @@ use Rattle.outline.specs.Outlines.{finite_step, check_finite, in_range_step, in_
 -- ---- the first number that is not finite
 
 module _ (ps : List Float) (k : ℕ) (x : Float) (b : Bool) (e : x ≡ get_or ps k nan) (f : b ≡ finite x) (so_far : rounds (finite_step ps) k Granted ≡ Granted) where
-  pub finite_goes_on : not b ≡ false → rounds (finite_step ps) (k + 1) Granted ≡ Granted
+  pub finite_goes_on : b ≡ true → rounds (finite_step ps) (k + 1) Granted ≡ Granted
   unfolding finite_step granted number values
-  finite_goes_on t = next_round (finite_step ps) k Granted ∙ rw (so_far, ← e, ← f, not-false b t) refl
+  finite_goes_on t = next_round (finite_step ps) k Granted ∙ rw (so_far, ← e, ← f, t) refl
 
-  pub not_finite : k < length ps → not b ≡ true → NotFinite k ≡ check_finite ps
+  pub not_finite : k < length ps → b ≡ false → NotFinite k ≡ check_finite ps
   unfolding check_finite finite_step granted number values
   not_finite l t =
       sym
-      (stays_to (finite_step ps) Granted (NotFinite k) (k + 1) (length ps) (omega arith) (next_round (finite_step ps) k Granted ∙ rw (so_far, ← e, ← f, not-true b t) refl) (λ m. refl))
+      (stays_to (finite_step ps) Granted (NotFinite k) (k + 1) (length ps) (omega arith) (next_round (finite_step ps) k Granted ∙ rw (so_far, ← e, ← f, t) refl) (λ m. refl))
 
 -- ---- a number in range
 

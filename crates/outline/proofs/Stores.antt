@@ -11,7 +11,6 @@ use lib.Ieee.{Float}
 use Rattle.math.specs.Number.{zero_float}
 use Rattle.base.specs.Loop.{rounds}
 use Rattle.plane.specs.declared.PlanarPoint.{PlanarPoint}
-use Rattle.outline.specs.declared.Outline.{Outline}
 use Rattle.ring.specs.Ring.{stored_at}
 use Rattle.ring.specs.Store.{store_vertex, store_step, stored}
 use Rattle.outline.specs.Outlines.{stored_outline}

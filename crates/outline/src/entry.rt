@@ -12,12 +12,10 @@ use error::Refusal;
 pub fn check_finite(ps: &[f64]) -> Refusal
     ensures { result ≡ Outlines.check_finite ps.now }
 {
-    let mut k = 0;
-    while k < ps.len() {
-        if !math::finite(ring::number_at(ps, k)) {
+    for (k, x) in ps.iter().enumerate() {
+        if !math::finite(*x) {
             return Refusal::NotFinite(k);
         }
-        k += 1;
     }
     Refusal::Granted
 }
@@ -47,10 +45,8 @@ pub(crate) fn in_range(ps: &[f64], n: usize) -> bool
         return false;
     }
     let mut s = true;
-    let mut k = 0;
-    while k < 2 * n {
+    for k in 0..2 * n {
         s = s & in_reach(ps[k]);
-        k += 1;
     }
     s
 }
@@ -59,16 +55,12 @@ pub(crate) fn in_range(ps: &[f64], n: usize) -> bool
 pub fn proper(room: usize, ps: &[f64], n: usize) -> bool
     ensures { result ≡ Outlines.proper room ps.now n }
 {
-    if n <= room {
-        (3 <= n) & in_range(ps, n)
-    } else {
-        false
-    }
+    n <= room && (3 <= n) & in_range(ps, n)
 }
 
 // 21 is asked first of an outline that is handed in.
 pub fn ask_ring(ps: &[f64], n: usize, r: Refusal) -> Refusal
     ensures { result ≡ Outlines.ask_ring ps.now n r }
 {
-    error::choose(proper(128, ps, n), r, Refusal::Shape)
+    base::choose(proper(128, ps, n), r, Refusal::Shape)
 }

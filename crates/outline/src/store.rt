@@ -20,20 +20,14 @@ pub fn stored_outline(ps: &[f64], n: usize, back: bool) -> Outline
     ensures { result ≡ Outlines.stored_outline ps.now n back }
 {
     let mut points = [0.0; 256];
-    let mut k = 0;
-    while k < n {
+    for k in 0..n {
         let v = ring::stored_at(ps, n, back, k);
-        let at = k;
-        k += 1;
-        if at < 128 {
-            points[2 * at] = v.east;
-            points[2 * at + 1] = v.north;
+        if k < 128 {
+            points[2 * k] = v.east;
+            points[2 * k + 1] = v.north;
         }
     }
-    Outline {
-        points: points,
-        count: n,
-    }
+    Outline { points, count: n }
 }
 
 pub fn refused(r: Refusal) -> NewOutline
@@ -48,14 +42,13 @@ pub fn refused(r: Refusal) -> NewOutline
 pub(crate) fn outline_of(ps: &[f64], c: Checked) -> NewOutline
     ensures { result ≡ Outlines.outline_of ps.now c }
 {
-    let refusal = c.refusal;
-    if refusal.granted() {
+    if c.refusal.granted() {
         NewOutline {
             refusal: Refusal::Granted,
             shape: stored_outline(ps, c.count, c.back),
         }
     } else {
-        refused(refusal)
+        refused(c.refusal)
     }
 }
 

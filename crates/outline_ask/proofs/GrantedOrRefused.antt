@@ -11,13 +11,8 @@ use Rattle.error.specs.declared.Refusal.{Refusal}
 use Rattle.error.specs.declared.Refusal.TheVariants.{Granted}
 use Rattle.error.specs.Refusals.{granted}
 use Rattle.error.proofs.Laws.{granted_is}
-use Rattle.outline_ask.specs.declared.Placed.{Placed}
-use Rattle.outline_ask.specs.declared.Measured.{Measured}
-use Rattle.outline_ask.specs.declared.Footed.{Footed}
 use Rattle.outline_ask.specs.declared.Neared.{Neared}
-use Rattle.outline_ask.specs.declared.Edged.{Edged}
 use Rattle.ring_near.specs.declared.Nearest.{Nearest}
-use Rattle.areas.specs.declared.NewArea.{NewArea}
 use Rattle.plane.specs.Points.{origin}
 use Rattle.areas.specs.Areas.{area_if}
 use Prim.Native.Nat.{ℕ}

@@ -1,7 +1,7 @@
 -- What is asked of an outline that is handed in, its numbers and how many vertices they are: question 21 first, then 2 of the point, then
 -- the value.
 -- Beside a refusal stands Outside, 0, (0, 0) or no pair. Assumes nothing.
-use Rattle.std.specs.Prelude.{ℕ, Bool, true, false, cond, List, ltb, Float}
+use Rattle.std.specs.Prelude.{ℕ, Bool, true, false, cond, List, ltb, Float, Option, None, Some}
 use Rattle.error.specs.declared.Refusal.{Refusal}
 use Rattle.error.specs.declared.Refusal.TheVariants.{Granted}
 use Rattle.plane.specs.declared.PlanarPoint.{PlanarPoint}
@@ -9,8 +9,7 @@ use Rattle.plane.specs.declared.Containment.{Containment}
 use Rattle.plane.specs.declared.Containment.TheVariants.{Outside}
 use Rattle.areas.specs.declared.NewArea.{NewArea}
 use Rattle.ring_near.specs.declared.Nearest.{Nearest}
-use Rattle.ring_cross.specs.declared.pair.Meeting.{Meeting}
-use Rattle.ring_cross.specs.declared.pair.Meeting.TheVariants.{Apart, Edges}
+use Rattle.ring_cross.specs.declared.EdgePair.{EdgePair}
 use Rattle.outline_ask.specs.declared.Placed.{Placed}
 use Rattle.outline_ask.specs.declared.Measured.{Measured}
 use Rattle.outline_ask.specs.declared.Footed.{Footed}
@@ -57,11 +56,11 @@ edged r a b = cond (granted r) (record { refusal = Granted; start = a; end = b }
 abbrev pub unmet : Refusal → Met
 unmet r = record { refusal = r; meets = false; outer = 0; inner = 0; swapped = false }
 
-unfoldable pub met_by : Meeting → Bool → Met
-met_by Apart swapped = unmet Granted
-met_by (Edges i k) swapped = record { refusal = Granted; meets = true; outer = i; inner = k; swapped = swapped }
+unfoldable pub met_by : Option EdgePair → Bool → Met
+met_by None swapped = unmet Granted
+met_by (Some p) swapped = record { refusal = Granted; meets = true; outer = p.first; inner = p.second; swapped = swapped }
 
-unfoldable pub paired : Refusal → Meeting → Bool → Met
+unfoldable pub paired : Refusal → Option EdgePair → Bool → Met
 paired r x swapped = cond (granted r) (met_by x swapped) (unmet r)
 
 -- ---- where a point lies, and how far

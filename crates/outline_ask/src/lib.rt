@@ -83,11 +83,10 @@ pub fn nearest(ps: &[f64], n: usize, p: PlanarPoint) -> Neared
     let r = entry::ask_ring(ps, n, p.check());
     if r.granted() {
         let near = ring_near::nearest_to(ps, n, p);
-        let foot = near.foot;
         Neared {
             refusal: Refusal::Granted,
             distance: math::distance(near.gap),
-            point: foot,
+            point: near.foot,
         }
     } else {
         Neared {
@@ -102,9 +101,8 @@ pub fn distance_to_boundary(ps: &[f64], n: usize, p: PlanarPoint) -> Measured
     ensures { result ≡ Queries.distance_to_boundary ps.now n p }
 {
     let near = nearest(ps, n, p);
-    let refusal = near.refusal;
     Measured {
-        refusal: refusal,
+        refusal: near.refusal,
         value: near.distance,
     }
 }
@@ -113,11 +111,9 @@ pub fn closest_boundary_point(ps: &[f64], n: usize, p: PlanarPoint) -> Footed
     ensures { result ≡ Queries.closest_boundary_point ps.now n p }
 {
     let near = nearest(ps, n, p);
-    let refusal = near.refusal;
-    let point = near.point;
     Footed {
-        refusal: refusal,
-        point: point,
+        refusal: near.refusal,
+        point: near.point,
     }
 }
 
@@ -149,5 +145,5 @@ pub fn edge(ps: &[f64], n: usize, k: usize) -> Edged
 pub(crate) fn within(test: bool, v: PlanarPoint) -> PlanarPoint
     ensures { result ≡ cond test v Points.origin }
 {
-    plane::choose(test, v, PlanarPoint::ORIGIN)
+    base::choose(test, v, PlanarPoint::ORIGIN)
 }

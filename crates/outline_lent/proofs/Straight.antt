@@ -2,13 +2,13 @@
 use Prim.Native.Nat.{ℕ, zero, suc, ◌+◌, ◌*◌, ◌≤◌, ◌<◌}
 use native.Mathlib.Nat.{zero-add}
 use native.Mathlib.Omega.{arith}
-use mathlib.Core.Path.{◌≡◌, refl, sym, ap, ◌∙◌, subst}
+use mathlib.Core.Path.{◌≡◌, refl, sym, ap, ◌∙◌}
 use mathlib.Core.Bool.{Bool}
 use mathlib.Core.List.{List}
-use lib.ListN.{get_or, set, length}
-use lib.Ieee.{Float, nan}
+use lib.ListN.{set, length}
+use lib.Ieee.{Float}
 use Rattle.base.specs.Loop.{rounds}
-use Rattle.base.proofs.Laws.{no_round, next_round}
+use Rattle.base.proofs.Laws.{next_round}
 use Rattle.plane.specs.declared.PlanarPoint.{PlanarPoint}
 use Rattle.ring.specs.Ring.{vertex_at, stored_at}
 use Rattle.ring.specs.Store.{store_vertex, store_step, stored}

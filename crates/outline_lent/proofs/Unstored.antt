@@ -1,17 +1,17 @@
 -- The answers of the check that stores nothing are those of the outline. Assumes nothing.
-use Prim.Native.Nat.{ℕ, ◌+◌, ◌*◌, ◌/◌, ◌%◌, ◌≤◌, ◌<◌}
+use Prim.Native.Nat.{ℕ, ◌*◌, ◌/◌, ◌%◌, ◌≤◌, ◌<◌}
 use native.Mathlib.Nat.{zero-add}
 use native.Mathlib.Omega.{arith}
 use mathlib.Core.Path.{◌≡◌, refl, sym, ap, ◌∙◌, subst}
 use mathlib.Core.Bool.{Bool, true, false, cond}
 use mathlib.Core.List.{List}
 use borrow.Author.Tests.{le-leb, lt-leb}
-use lib.Dec.{eqb, leb}
+use lib.Dec.{eqb}
 use lib.ListN.{length, replicate, length-replicate}
 use lib.Ieee.{Float}
 use Rattle.math.specs.Number.{zero_float}
 use Rattle.error.specs.declared.Refusal.{Refusal}
-use Rattle.error.specs.declared.Refusal.TheVariants.{Granted, Odd, Short, Shape}
+use Rattle.error.specs.declared.Refusal.TheVariants.{Granted, Odd, Short}
 use Rattle.error.specs.Refusals.{values, number, granted}
 use Rattle.ring.specs.Ring.{vertex_at, stored_at}
 use Rattle.ring.specs.Store.{stored}
@@ -20,10 +20,9 @@ use Rattle.ring_check.specs.Checks.{check_door, refused}
 use Rattle.outline.specs.declared.NewOutline.{NewOutline}
 use Rattle.outline.specs.Outlines.{outline, outline_if, new_outline, outline_of, outline_refused, no_outline, stored_outline, check_finite, proper, ask, ask_ring}
 use Rattle.outline.proofs.Outlines.{outline_proper}
-use Rattle.outline_lent.specs.Writes.{write_ring, write_refusal, ring_write, written_ring}
+use Rattle.outline_lent.specs.Writes.{write_refusal, ring_write, written_ring}
 use Rattle.outline_lent.proofs.Asked.{fits_room}
 use Rattle.ring.proofs.Storing.{stored_new}
-use Rattle.outline_lent.specs.declared.direct.Counted.{Counted}
 use Rattle.outline_lent.specs.Direct.{check_if, check_numbers, counted, outline_told, told, over_outline}
 use Rattle.outline_lent.proofs.Straight.{straight}
 

@@ -1,5 +1,5 @@
 -- The outline check without a stored outline, and what it answers where the ring goes to lent output. Assumes nothing.
-use Rattle.std.specs.Prelude.{ℕ, ◌/◌, ◌%◌, cond, List, eqb, length, Float}
+use Rattle.std.specs.Prelude.{◌/◌, ◌%◌, cond, List, eqb, length, Float}
 use Rattle.error.specs.declared.Refusal.{Refusal}
 use Rattle.error.specs.declared.Refusal.TheVariants.{Odd}
 use Rattle.error.specs.Refusals.{granted}

@@ -41,15 +41,14 @@ pub fn check_outline(ps: &[f64]) -> Counted
     ensures { result ≡ Direct.counted (Outlines.outline ps.now) }
 {
     let c = check_numbers(ps);
-    let refusal = c.refusal;
-    if refusal.granted() {
+    if c.refusal.granted() {
         Counted {
             refusal: Refusal::Granted,
             count: c.count,
         }
     } else {
         Counted {
-            refusal: refusal,
+            refusal: c.refusal,
             count: 0,
         }
     }
@@ -60,13 +59,10 @@ pub(crate) fn write_stored(ps: &[f64], n: usize, back: bool, out: &mut [f64])
     requires { 2 * n ≤ length out.old }
     ensures { out.new ≡ Store.stored ps.now n back 0 out.old }
 {
-    let mut k = 0;
-    while k < n {
+    for k in 0..n {
         let v = ring::stored_at(ps, n, back, k);
-        let at = k;
-        k += 1;
-        out[2 * at] = v.east;
-        out[2 * at + 1] = v.north;
+        out[2 * k] = v.east;
+        out[2 * k + 1] = v.north;
     }
 }
 
@@ -76,9 +72,8 @@ pub fn write_outline(ps: &[f64], out: &mut [f64]) -> Counted
     ensures written { out.new ≡ Direct.over_outline (Outlines.outline ps.now) out.old }
 {
     let c = check_numbers(ps);
-    let refusal = c.refusal;
     let n = c.count;
-    if refusal.granted() {
+    if c.refusal.granted() {
         if n <= out.len() / 2 {
             write_stored(ps, n, c.back, out);
             Counted {
@@ -93,7 +88,7 @@ pub fn write_outline(ps: &[f64], out: &mut [f64]) -> Counted
         }
     } else {
         Counted {
-            refusal: refusal,
+            refusal: c.refusal,
             count: 0,
         }
     }

@@ -18,7 +18,7 @@ pub(crate) fn ask_write(ps: &[f64], n: usize, length: usize) -> Refusal
 {
     if n <= 128 {
         let needed = 2 * n;
-        let fits = error::choose(needed <= length, Refusal::Granted, Refusal::Short(needed));
+        let fits = base::choose(needed <= length, Refusal::Granted, Refusal::Short(needed));
         entry::ask_ring(ps, n, fits)
     } else {
         Refusal::Shape
@@ -29,12 +29,9 @@ pub(crate) fn ask_write(ps: &[f64], n: usize, length: usize) -> Refusal
 pub fn write_numbers(ps: &[f64], count: usize, out: &mut [f64])
     ensures { out.new ≡ rounds (Writes.write_step ps.now 0) count out.old }
 {
-    let mut k = 0;
-    while k < count {
-        let at = k;
-        k += 1;
-        if at < out.len() {
-            out[at] = ring::number_at(ps, at);
+    for k in 0..count {
+        if k < out.len() {
+            out[k] = ring::number_at(ps, k);
         }
     }
 }

@@ -10,8 +10,7 @@ use areas::{Area, NewArea};
 use error::Refusal;
 use outline::entry;
 use outline_ask::{Measured, Met};
-use ring_cross::pair;
-use ring_cross::pair::Meeting;
+use ring_cross::{EdgePair, pair};
 
 // Beside a refusal: 0.
 pub(crate) fn unmeasured(r: Refusal) -> Measured
@@ -74,14 +73,14 @@ pub fn extent(ps: &[f64], n: usize) -> Measured
 }
 
 // Question 21 of two outlines, of the first before the second.
-pub(crate) fn ask_both<'a>(ps: &'a [f64], n: usize, qs: &'a [f64], m: usize) -> Refusal
+pub(crate) fn ask_both(ps: &[f64], n: usize, qs: &[f64], m: usize) -> Refusal
     ensures { result ≡ Outlines.ask_ring ps.now n (Outlines.ask_ring qs.now m Granted) }
 {
     entry::ask_ring(ps, n, entry::ask_ring(qs, m, Refusal::Granted))
 }
 
 // 0 where the rings meet, else the least gap over the vertices of each against the edges of the other.
-pub(crate) fn clear_between<'a>(ps: &'a [f64], n: usize, qs: &'a [f64], m: usize) -> f64
+pub(crate) fn clear_between(ps: &[f64], n: usize, qs: &[f64], m: usize) -> f64
     ensures { result ≡ Queries.clear_between ps.now n qs.now m }
 {
     if ring_cross::rings_meet(qs, m, ps, n) {
@@ -91,7 +90,7 @@ pub(crate) fn clear_between<'a>(ps: &'a [f64], n: usize, qs: &'a [f64], m: usize
 }
 
 // The clearance of two outlines.
-pub fn clearance<'a>(ps: &'a [f64], n: usize, qs: &'a [f64], m: usize) -> Measured
+pub fn clearance(ps: &[f64], n: usize, qs: &[f64], m: usize) -> Measured
     ensures { result ≡ Queries.clearance ps.now n qs.now m }
 {
     let r = ask_both(ps, n, qs, m);
@@ -118,23 +117,23 @@ pub(crate) fn unmet(r: Refusal) -> Met
     }
 }
 
-pub(crate) fn met_by(met: Meeting, swapped: bool) -> Met
+pub(crate) fn met_by(met: Option<EdgePair>, swapped: bool) -> Met
     ensures { result ≡ Queries.met_by met swapped }
 {
     match met {
-        Meeting::Apart => unmet(Refusal::Granted),
-        Meeting::Edges(outer, inner) => Met {
+        None => unmet(Refusal::Granted),
+        Some(edges) => Met {
             refusal: Refusal::Granted,
             meets: true,
-            outer: outer,
-            inner: inner,
-            swapped: swapped,
+            outer: edges.first,
+            inner: edges.second,
+            swapped,
         },
     }
 }
 
 // Whether two outlines meet, with the pair of edges.
-pub fn meeting<'a>(ps: &'a [f64], n: usize, qs: &'a [f64], m: usize) -> Met
+pub fn meeting(ps: &[f64], n: usize, qs: &[f64], m: usize) -> Met
     ensures { result ≡ Queries.meeting ps.now n qs.now m }
 {
     let r = ask_both(ps, n, qs, m);

@@ -9,10 +9,17 @@ use error::Refusal;
 
 // A point of the plane, or a vector.
 #[repr(C)]
-#[derive(Clone, Copy)]
+#[derive(Clone, Copy, PartialEq)]
 pub struct PlanarPoint {
     pub east: f64,
     pub north: f64,
+}
+
+// The corners of a box: of a ring, or of a block of its edges.
+#[derive(Clone, Copy)]
+pub struct Bounds {
+    pub low: PlanarPoint,
+    pub high: PlanarPoint,
 }
 
 // A point, or the refusal of its numbers.
@@ -23,20 +30,14 @@ pub struct NewPoint {
 }
 
 // Where a point lies relative to an outline or a region.
-#[derive(Clone, Copy)]
+#[derive(Clone, Copy, PartialEq, Eq)]
 pub enum Containment {
     Inside,
     OnBoundary,
     Outside,
 }
 
-// a where the test holds, else b.
-pub fn choose(test: bool, a: PlanarPoint, b: PlanarPoint) -> PlanarPoint
-    ensures { result ≡ cond test a b }
-{
-    if test { a } else { b }
-}
-
+#[tactic(auto, unfolding(crate::specs::Plane::sub))]
 pub fn sub(a: PlanarPoint, b: PlanarPoint) -> PlanarPoint
     ensures { result ≡ Plane.sub a b }
 {
@@ -46,12 +47,14 @@ pub fn sub(a: PlanarPoint, b: PlanarPoint) -> PlanarPoint
     }
 }
 
+#[tactic(auto, unfolding(crate::specs::Plane::dot))]
 pub fn dot(a: PlanarPoint, b: PlanarPoint) -> f64
     ensures { result ≡ Plane.dot a b }
 {
     a.east * b.east + a.north * b.north
 }
 
+#[tactic(auto, unfolding(crate::specs::Plane::cross))]
 pub fn cross(a: PlanarPoint, b: PlanarPoint) -> f64
     ensures { result ≡ Plane.cross a b }
 {
@@ -59,6 +62,7 @@ pub fn cross(a: PlanarPoint, b: PlanarPoint) -> f64
 }
 
 // The length of a vector.
+#[tactic(auto, unfolding(crate::specs::Points::length_of))]
 pub fn length_of(v: PlanarPoint) -> f64
     ensures { result ≡ Points.length_of v }
 {
@@ -66,10 +70,11 @@ pub fn length_of(v: PlanarPoint) -> f64
 }
 
 // −0 and 0 are equal points.
+#[tactic(auto, unfolding(crate::specs::Plane::same))]
 pub fn same(a: PlanarPoint, b: PlanarPoint) -> bool
     ensures { result ≡ Plane.same a b }
 {
-    (a.east == b.east) & (a.north == b.north)
+    a == b
 }
 
 impl PlanarPoint {
@@ -80,33 +85,33 @@ impl PlanarPoint {
     };
 
     // Question 2 of a point: east first.
+    #[tactic(auto, unfolding(crate::specs::Points::check_point))]
     pub fn check(self) -> Refusal
         ensures { result ≡ Points.check_point self }
     {
-        let north = error::choose(
+        let north = base::choose(
             math::finite(self.north),
             Refusal::Granted,
             Refusal::NotFinite(1),
         );
-        error::choose(math::finite(self.east), north, Refusal::NotFinite(0))
+        base::choose(math::finite(self.east), north, Refusal::NotFinite(0))
     }
 
     // The point of these numbers, or the origin beside a refusal.
+    #[tactic(auto, using(error::proofs::Laws::granted_is), unfolding(crate::specs::Points::from_metres, crate::specs::Points::point_if))]
     pub fn from_metres(east: f64, north: f64) -> NewPoint
         ensures { result ≡ Points.from_metres east north }
     {
-        let given = PlanarPoint {
-            east: east,
-            north: north,
-        };
+        let given = PlanarPoint { east, north };
         let refusal = given.check();
         NewPoint {
-            refusal: refusal,
-            point: choose(refusal.granted(), given, PlanarPoint::ORIGIN),
+            refusal,
+            point: base::choose(refusal.granted(), given, PlanarPoint::ORIGIN),
         }
     }
 
     // The distance between two points; one that is infinite reads 0.
+    #[tactic(auto, unfolding(crate::specs::Points::distance_to))]
     pub fn distance_to(self, other: PlanarPoint) -> f64
         ensures { result ≡ Points.distance_to self other }
     {

@@ -38,9 +38,11 @@ use Rattle.ring_contain.proofs.Exact.{boundary_exact}
 use Rattle.ring_near.specs.declared.Nearest.{Nearest}
 use Rattle.ring_near.proofs.Least.{nearest_least}
 use Rattle.ring_cross.specs.MeetExact.{RingsShare}
-use Rattle.ring_cross.specs.declared.pair.Meeting.{Meeting}
-use Rattle.ring_cross.specs.declared.pair.Meeting.TheVariants.{Apart, Edges}
-use Rattle.ring_cross.specs.Pair.{is_met, second_outer, ring_pair}
+use Rattle.std.specs.Prelude.{Option, None, Some}
+use Rattle.std.specs.Option.{is_some}
+use Rattle.ring_cross.specs.declared.EdgePair.{EdgePair}
+use Rattle.ring_cross.specs.EdgePairs.{edges}
+use Rattle.ring_cross.specs.Pair.{second_outer, ring_pair}
 use Rattle.ring_cross.specs.PairLaws.{LowestPair}
 use Rattle.ring_cross.proofs.MeetExact.{rings_meet_exact}
 use Rattle.ring_cross.proofs.PairLaws.{pair_tells}
@@ -446,17 +448,17 @@ unfolding told_length length_answer
 lw_length u x h = no_measure u x (refused_by (measured u x).refusal h)
 
 -- the pair of two outlines
-met_granted : (x : Meeting) (b : Bool) → (Query.met_by x b).refusal ≡ Granted
+met_granted : (x : Option EdgePair) (b : Bool) → (Query.met_by x b).refusal ≡ Granted
 unfolding Query.met_by
-met_granted Apart b = refl
-met_granted (Edges i k) b = refl
+met_granted None b = refl
+met_granted (Some p) b = refl
 
-met_meets : (x : Meeting) (b : Bool) → (Query.met_by x b).meets ≡ is_met x
-unfolding Query.met_by is_met
-met_meets Apart b = refl
-met_meets (Edges i k) b = refl
+met_meets : (x : Option EdgePair) (b : Bool) → (Query.met_by x b).meets ≡ is_some x
+unfolding Query.met_by
+met_meets None b = refl
+met_meets (Some p) b = refl
 
-lw_meeting : (u : Refusal) (x : Meeting) (b : Bool) → let a = told_meeting (Query.paired u x b) in (a.refusal ≡ 0 → ⊥) → a.meets ≡ 0
+lw_meeting : (u : Refusal) (x : Option EdgePair) (b : Bool) → let a = told_meeting (Query.paired u x b) in (a.refusal ≡ 0 → ⊥) → a.meets ≡ 0
 unfolding told_meeting meeting_answer Query.paired carried carried_of told values
 lw_meeting u x b =
     by_test (λ (a : Met). ((told_meeting a).refusal ≡ 0 → ⊥) → (told_meeting a).meets ≡ 0) (granted u)
@@ -466,31 +468,31 @@ lw_answered : (ps : List Float) (n : ℕ) (qs : List Float) (m : ℕ) → proper
 unfolding told_meeting meeting_answer Query.meeting Query.paired ask_ring ask granted number carried carried_of told values
 lw_answered ps n qs m e f = rw (e, f) (ap (λ (r : Refusal). (carried r).question) (met_granted (ring_pair ps n qs m) (second_outer n m)))
 
-lw_no_pair : (u : Refusal) (x : Meeting) (b : Bool) → let a = told_meeting (Query.paired u x b) in a.meets ≡ 0 → (a.outer ≡ 0) × (a.inner ≡ 0) × (a.swapped ≡ 0)
+lw_no_pair : (u : Refusal) (x : Option EdgePair) (b : Bool) → let a = told_meeting (Query.paired u x b) in a.meets ≡ 0 → (a.outer ≡ 0) × (a.inner ≡ 0) × (a.swapped ≡ 0)
 unfolding told_meeting meeting_answer Query.paired Query.met_by
 lw_no_pair u x b =
     by_test (λ (a : Met). (told_meeting a).meets ≡ 0 → ((told_meeting a).outer ≡ 0) × ((told_meeting a).inner ≡ 0) × ((told_meeting a).swapped ≡ 0)) (granted u)
     (λ g. go x) (λ g h. (refl, refl, refl))
   where
-    go : (y : Meeting) → (told_meeting (Query.met_by y b)).meets ≡ 0 → ((told_meeting (Query.met_by y b)).outer ≡ 0) × ((told_meeting (Query.met_by y b)).inner ≡ 0) × ((told_meeting (Query.met_by y b)).swapped ≡ 0)
-    go Apart h = (refl, refl, refl)
-    go (Edges i k) h = absurd (omega (arith, h))
+    go : (y : Option EdgePair) → (told_meeting (Query.met_by y b)).meets ≡ 0 → ((told_meeting (Query.met_by y b)).outer ≡ 0) × ((told_meeting (Query.met_by y b)).inner ≡ 0) × ((told_meeting (Query.met_by y b)).swapped ≡ 0)
+    go None h = (refl, refl, refl)
+    go (Some p) h = absurd (omega (arith, h))
 
-lw_meets : (u : Refusal) (x : Meeting) (b : Bool) → let a = told_meeting (Query.paired u x b) in a.refusal ≡ 0 → a.meets ≡ cond (is_met x) 1 0
+lw_meets : (u : Refusal) (x : Option EdgePair) (b : Bool) → let a = told_meeting (Query.paired u x b) in a.refusal ≡ 0 → a.meets ≡ cond (is_some x) 1 0
 unfolding told_meeting meeting_answer Query.paired
 lw_meets u x b =
-    by_test (λ (a : Met). (told_meeting a).refusal ≡ 0 → (told_meeting a).meets ≡ cond (is_met x) 1 0) (granted u)
+    by_test (λ (a : Met). (told_meeting a).refusal ≡ 0 → (told_meeting a).meets ≡ cond (is_some x) 1 0) (granted u)
     (λ g h. ap (λ (t : Bool). cond t 1 0) (met_meets x b)) (λ g h. absurd (true≢false (sym (granted_by u h) ∙ g)))
 
-lw_pair : (u : Refusal) (x : Meeting) (b : Bool) → let a = told_meeting (Query.paired u x b) in a.meets ≡ 1 → (a.swapped ≡ cond b 1 0) × (x ≡ Edges a.outer a.inner)
+lw_pair : (u : Refusal) (x : Option EdgePair) (b : Bool) → let a = told_meeting (Query.paired u x b) in a.meets ≡ 1 → (a.swapped ≡ cond b 1 0) × (x ≡ edges a.outer a.inner)
 unfolding told_meeting meeting_answer Query.paired Query.met_by
 lw_pair u x b =
-    by_test (λ (a : Met). (told_meeting a).meets ≡ 1 → ((told_meeting a).swapped ≡ cond b 1 0) × (x ≡ Edges (told_meeting a).outer (told_meeting a).inner)) (granted u)
+    by_test (λ (a : Met). (told_meeting a).meets ≡ 1 → ((told_meeting a).swapped ≡ cond b 1 0) × (x ≡ edges (told_meeting a).outer (told_meeting a).inner)) (granted u)
     (λ g. go x) (λ g h. absurd (omega (arith, h)))
   where
-    go : (y : Meeting) → (told_meeting (Query.met_by y b)).meets ≡ 1 → ((told_meeting (Query.met_by y b)).swapped ≡ cond b 1 0) × (y ≡ Edges (told_meeting (Query.met_by y b)).outer (told_meeting (Query.met_by y b)).inner)
-    go Apart h = absurd (omega (arith, h))
-    go (Edges i k) h = (refl, refl)
+    go : (y : Option EdgePair) → (told_meeting (Query.met_by y b)).meets ≡ 1 → ((told_meeting (Query.met_by y b)).swapped ≡ cond b 1 0) × (y ≡ edges (told_meeting (Query.met_by y b)).outer (told_meeting (Query.met_by y b)).inner)
+    go None h = absurd (omega (arith, h))
+    go (Some p) h = (refl, refl)
 
 lowest : (ps : List Float) (n : ℕ) (qs : List Float) (m i k : ℕ) → LowestPair ps n qs m i k → LowestMeeting ps n qs m i k
 lowest ps n qs m i k w = record {

@@ -26,7 +26,7 @@
 -- How to read it: an `abbrev` stands for its right side everywhere. `P × Q` is P and Q, `P ⊎ Q` is P or Q, `(i : ℕ) × P i` is an i
 -- with P i, and `P → ⊥` says that P does not hold. `get_or ps k nan` is number k of the list ps, and NaN past its end. A ring is a list
 -- of numbers, east then north, and a count of vertices.
-use Rattle.std.specs.Prelude.{ℕ, suc, ◌+◌, ◌-◌, ◌*◌, ◌/◌, ◌%◌, ◌^◌, ◌≤◌, ◌<◌, ◌≡◌, ◌⊎◌, Bool, true, false, cond, ◌&&◌, List, [], ◌∷◌, ◌++◌, map, T, leb, get_or, length, replicate, take, drop, Float}
+use Rattle.std.specs.Prelude.{ℕ, suc, ◌+◌, ◌-◌, ◌*◌, ◌/◌, ◌%◌, ◌^◌, ◌≤◌, ◌<◌, ◌≡◌, ◌⊎◌, Bool, true, false, cond, ◌&&◌, List, [], ◌∷◌, ◌++◌, map, T, leb, get_or, length, replicate, take, drop, Float, None}
 use Rattle.std.specs.Float.{nan, inf, binary64}
 use Rattle.std.specs.Float.Ieee.{fits, lt, le, eq, of_bits}
 use Rattle.std.specs.Float.Ieee.Exact.{HasValue}
@@ -50,7 +50,7 @@ use Rattle.ring_measure.specs.Measures.{extent}
 use Rattle.ring_contain.specs.Contains.{ring_contains}
 use Rattle.ring_near.specs.Near as Near
 use Rattle.ring_cross.specs.Meet.{rings_meet}
-use Rattle.ring_cross.specs.declared.Crossing.TheVariants.{Simple, Edges}
+use Rattle.ring_cross.specs.EdgePairs.{edges}
 use Rattle.ring_cross.specs.Simple.{check_simple}
 use Rattle.ring_cross.specs.SimpleExact.{FiniteRing, Folded, Why}
 use Rattle.ring_check.specs.Checks.{kept, hairline, refused, check_ring, check_door}
@@ -370,7 +370,7 @@ pub record SizedRegion (r : Region) : Type 0 where
 -- An outline q passed the tests of an offset of o by d, which are the Rust's, as it computes them: it is simple, each vertex lies on the
 -- right side, its gap is at least distance − 1e-9 × (1 + distance + extent), and no edge meets an edge of o.
 pub record Passed (o : Outline) (outward : Bool) (d : Float) (q : Outline) : Type 0 where
-  pub simple : check_simple q.points q.count false ≡ Simple
+  pub simple : check_simple q.points q.count false ≡ None
   pub side : (k : ℕ) → k < q.count →
       ring_contains o.points o.count (vertex_at q.points k) ≡ cond outward Outside Inside
   pub gap : (k : ℕ) → k < q.count →
@@ -382,7 +382,7 @@ pub record Passed (o : Outline) (outward : Bool) (d : Float) (q : Outline) : Typ
 
 -- the same of a region q and an inset of r by d; its rings have passed 10 to 12 as well
 pub record PassedRegion (r : Region) (d : Float) (q : Region) : Type 0 where
-  pub simple : (k : ℕ) → k ≤ q.holes → check_simple (ring_points q k) (ring_count q k) false ≡ Simple
+  pub simple : (k : ℕ) → k ≤ q.holes → check_simple (ring_points q k) (ring_count q k) false ≡ None
   pub checked : check_region q ≡ Granted
   pub side : (k i : ℕ) → k ≤ q.holes → i < ring_count q k → region_contains r (vertex_at (ring_points q k) i) ≡ Inside
   pub gap : (k i : ℕ) → k ≤ q.holes → i < ring_count q k →
@@ -777,7 +777,7 @@ pub record ExactMeeting : Type 0 where
       a.meets ≡ 1 → m < n → (a.swapped ≡ 1) × LowestMeeting qs m ps n a.outer a.inner
   -- the edges that 9 names share a point, or they are neighbours that fold back (`Why`); of the ring as it is stored
   pub named : (ps : List Float) (n : ℕ) (back : Bool) → FiniteRing ps n back →
-      (i j : ℕ) → check_simple ps n back ≡ Edges i j → Why ps n back i j
+      (i j : ℕ) → check_simple ps n back ≡ edges i j → Why ps n back i j
   -- ---- what is accepted
 
   -- of an outline no two edges that are no neighbours share a point, and no neighbours are told to fold back (`Plain`)

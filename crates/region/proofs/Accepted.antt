@@ -12,7 +12,7 @@ use Rattle.ring_check.proofs.Sound.{Passed}
 use Rattle.plane.specs.declared.PlanarPoint.{PlanarPoint}
 use Rattle.error.specs.declared.Refusal.{Refusal}
 use Rattle.error.specs.declared.Refusal.TheVariants.{Granted, Splits, Collapses, Shape, ManyPieces}
-use Rattle.ring_cross.specs.declared.Crossing.TheVariants.{Simple}
+use Rattle.std.specs.Prelude.{None}
 use Rattle.front.specs.declared.Edge.{Edge}
 use Rattle.front.specs.declared.Walk.{Walk}
 use Rattle.front.specs.declared.Sweep.{Sweep}
@@ -119,7 +119,7 @@ module _ (r : Region) (d : Float) where
 
   module _ (q : Region) (outer : GoodRing 128 q.outer.points q.outer.count) (few : q.holes ≤ 8) (holes : GoodHoles (GoodRing 32) q) (checked : granted (check_region q) ≡ true)
       (a : region_keeps_clear least r q ≡ true) (b : crosses r q ≡ false) where
-    rings_simple : (k : ℕ) → k ≤ q.holes → check_simple (ring_points q k) (ring_count q k) false ≡ Simple
+    rings_simple : (k : ℕ) → k ≤ q.holes → check_simple (ring_points q k) (ring_count q k) false ≡ None
     unfolding ring_points ring_count
     rings_simple zero l = outer.simple
     rings_simple (suc k) l = (holes.each k (omega arith) (omega arith)).simple

@@ -2,13 +2,12 @@
 -- shape beside a refusal, the counts before loading, what an accepted inset has passed, what passes 21, and lent output. Proved in
 -- `proofs/DemandAnswered.antt`, `proofs/Accepted.antt`, `proofs/Loaded.antt`, `proofs/Lent.antt` and `proofs/Counted.antt`. Assumes
 -- nothing.
-use Rattle.std.specs.Prelude.{ℕ, suc, ◌+◌, ◌*◌, ◌≤◌, ◌<◌, ◌≡◌, true, false, List, get_or, length, replicate, Float}
+use Rattle.std.specs.Prelude.{ℕ, suc, ◌+◌, ◌*◌, ◌≤◌, ◌<◌, ◌≡◌, true, false, List, get_or, length, replicate, Float, None}
 use Rattle.std.specs.Float.{nan}
 use Rattle.std.specs.Float.Ieee.{lt, le, eq}
 use Rattle.plane.specs.declared.Containment.TheVariants.{Inside}
 use Rattle.error.specs.declared.Refusal.{Refusal}
 use Rattle.error.specs.declared.Refusal.TheVariants.{Granted, Shape}
-use Rattle.ring_cross.specs.declared.Crossing.TheVariants.{Simple}
 use Rattle.outline.specs.declared.Outline.{Outline}
 use Rattle.region.specs.declared.Region.{Region}
 use Rattle.region.specs.declared.NewRegion.{NewRegion}
@@ -97,7 +96,7 @@ InsetBefore = (r : Region) (d : Float) → InsetBeforeLoading r d
 
 pub record RegionKeptClear (r : Region) (d : Float) (q : Region) : Type 0 where
   -- each ring has passed `check_simple`, and the rings 10 to 12
-  pub simple : (k : ℕ) → k ≤ q.holes → check_simple (ring_points q k) (ring_count q k) false ≡ Simple
+  pub simple : (k : ℕ) → k ≤ q.holes → check_simple (ring_points q k) (ring_count q k) false ≡ None
   pub region : check_region q ≡ Granted
   -- each vertex tests inside
   pub side : (k i : ℕ) → k ≤ q.holes → i < ring_count q k → region_contains r (vertex_at (ring_points q k) i) ≡ Inside

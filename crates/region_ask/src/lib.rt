@@ -15,14 +15,7 @@ use outline_ask::{Footed, Measured, Neared, Placed};
 use plane::{Containment, PlanarPoint};
 
 // Where a point lies; Outside beside a refusal.
-pub fn contains<'a>(
-    ps: &'a [f64],
-    n: usize,
-    hs: &'a [f64],
-    cs: &'a [usize],
-    h: usize,
-    p: PlanarPoint,
-) -> Placed
+pub fn contains(ps: &[f64], n: usize, hs: &[f64], cs: &[usize], h: usize, p: PlanarPoint) -> Placed
     ensures { result ≡ Queries.region_contains (Regions.region_of ps.now n hs.now cs.now h) p }
 {
     let r = region_given::ask_region(ps, n, hs, cs, h, p.check());
@@ -40,11 +33,11 @@ pub fn contains<'a>(
 }
 
 // The distance to the nearest edge of the boundary or of a hole; 0 beside a refusal.
-pub fn distance_to_boundary<'a>(
-    ps: &'a [f64],
+pub fn distance_to_boundary(
+    ps: &[f64],
     n: usize,
-    hs: &'a [f64],
-    cs: &'a [usize],
+    hs: &[f64],
+    cs: &[usize],
     h: usize,
     p: PlanarPoint,
 ) -> Measured
@@ -65,11 +58,11 @@ pub fn distance_to_boundary<'a>(
 }
 
 // The nearest point of the boundary or of a hole; (0, 0) beside a refusal.
-pub fn closest_boundary_point<'a>(
-    ps: &'a [f64],
+pub fn closest_boundary_point(
+    ps: &[f64],
     n: usize,
-    hs: &'a [f64],
-    cs: &'a [usize],
+    hs: &[f64],
+    cs: &[usize],
     h: usize,
     p: PlanarPoint,
 ) -> Footed
@@ -90,14 +83,7 @@ pub fn closest_boundary_point<'a>(
 }
 
 // The nearest point of the boundary or of a hole, and its distance, in one walk; (0, 0) and 0 beside a refusal.
-pub fn nearest<'a>(
-    ps: &'a [f64],
-    n: usize,
-    hs: &'a [f64],
-    cs: &'a [usize],
-    h: usize,
-    p: PlanarPoint,
-) -> Neared
+pub fn nearest(ps: &[f64], n: usize, hs: &[f64], cs: &[usize], h: usize, p: PlanarPoint) -> Neared
     ensures { result ≡ Boundary.region_nearest (Regions.region_of ps.now n hs.now cs.now h) p }
 {
     let r = region_given::ask_region(ps, n, hs, cs, h, p.check());
@@ -106,7 +92,7 @@ pub fn nearest<'a>(
         Neared {
             refusal: Refusal::Granted,
             distance: p.distance_to(point),
-            point: point,
+            point,
         }
     } else {
         Neared {
@@ -118,7 +104,7 @@ pub fn nearest<'a>(
 }
 
 // The area inside the outer ring and outside every hole; 0 beside a refusal.
-pub fn area<'a>(ps: &'a [f64], n: usize, hs: &'a [f64], cs: &'a [usize], h: usize) -> Measured
+pub fn area(ps: &[f64], n: usize, hs: &[f64], cs: &[usize], h: usize) -> Measured
     ensures { result ≡ Queries.region_area (Regions.region_of ps.now n hs.now cs.now h) }
 {
     let r = region_given::ask_region(ps, n, hs, cs, h, Refusal::Granted);
@@ -136,7 +122,7 @@ pub fn area<'a>(ps: &'a [f64], n: usize, hs: &'a [f64], cs: &'a [usize], h: usiz
 }
 
 // The length of the outer ring and of every hole; 0 beside a refusal.
-pub fn perimeter<'a>(ps: &'a [f64], n: usize, hs: &'a [f64], cs: &'a [usize], h: usize) -> Measured
+pub fn perimeter(ps: &[f64], n: usize, hs: &[f64], cs: &[usize], h: usize) -> Measured
     ensures { result ≡ Queries.region_perimeter (Regions.region_of ps.now n hs.now cs.now h) }
 {
     let r = region_given::ask_region(ps, n, hs, cs, h, Refusal::Granted);
@@ -159,14 +145,11 @@ pub(crate) fn outline_as(ps: &[f64], n: usize) -> Outline
 {
     let mut points = [0.0; 256];
     outline_lent::write_numbers(ps, ps.len(), &mut points);
-    Outline {
-        points: points,
-        count: n,
-    }
+    Outline { points, count: n }
 }
 
 // The outer ring. 256 numbers are handed back as they are.
-pub fn outer<'a>(ps: &'a [f64], n: usize, hs: &'a [f64], cs: &'a [usize], h: usize) -> NewOutline
+pub fn outer(ps: &[f64], n: usize, hs: &[f64], cs: &[usize], h: usize) -> NewOutline
     ensures is { result ≡ Reads.outer_of (Regions.region_of ps.now n hs.now cs.now h) }
     ensures whole { length ps.now ≡ 256 → result ≡ Queries.region_outer
         (Regions.region_of ps.now n hs.now cs.now h) }
@@ -182,7 +165,7 @@ pub fn outer<'a>(ps: &'a [f64], n: usize, hs: &'a [f64], cs: &'a [usize], h: usi
 }
 
 // Hole k as an outline; from h on the empty one.
-pub(crate) fn hole_outline<'a>(hs: &'a [f64], cs: &'a [usize], h: usize, k: usize) -> Outline
+pub(crate) fn hole_outline(hs: &[f64], cs: &[usize], h: usize, k: usize) -> Outline
     ensures { result ≡ cond (ltb k h) (Outlines.stored_outline (drop (64 * k) hs.now) (get_or cs.now k 0) false)
         Outlines.no_outline }
 {
@@ -196,14 +179,7 @@ pub(crate) fn hole_outline<'a>(hs: &'a [f64], cs: &'a [usize], h: usize, k: usiz
 }
 
 // Hole k.
-pub fn hole<'a>(
-    ps: &'a [f64],
-    n: usize,
-    hs: &'a [f64],
-    cs: &'a [usize],
-    h: usize,
-    k: usize,
-) -> NewOutline
+pub fn hole(ps: &[f64], n: usize, hs: &[f64], cs: &[usize], h: usize, k: usize) -> NewOutline
     ensures { result ≡ Queries.region_hole (Regions.region_of ps.now n hs.now cs.now h) k }
 {
     if region_given::proper_region(ps, n, hs, cs, h) {

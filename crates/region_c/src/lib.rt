@@ -1,20 +1,44 @@
 // Regions for C: those of ring lengths and numbers, and those handed in as they are written. What is asked of them, and what is written of
 // them to lent output.
-#![tactic(auto)]
+#![tactic(auto, unfolding(crate::specs::Told::open_told, region::specs::Regions::region_of))]
 
 ghost use Rattle.std.specs.Prelude.{◌≡◌, length};
 ghost use Rattle.outline_lent.specs.Direct;
 ghost use Rattle.region.specs.Checks;
 ghost use Rattle.region.specs.Queries;
+ghost use Rattle.region.specs.Regions;
 ghost use Rattle.region_ask.specs.Boundary;
 ghost use Rattle.region_c.specs.Told;
 
-use error::{Carried, Refusal};
-use outline::{NewOutline, Outline, store};
+use error::Refusal;
+use outline::{NewOutline, store};
 use outline_ask::{Measured, Neared, Placed};
 use outline_lent::direct::Counted;
 use plane::PlanarPoint;
-use region::{InsetWritten, NewRegion, RegionWritten};
+use region::{InsetWritten, NewRegion, Region, RegionWritten};
+
+// A region by its parts, as the questions take it: the outer ring's numbers and how many vertices they are, the holes' numbers, how many
+// vertices each has, and how many holes there are.
+#[derive(Clone, Copy)]
+pub(crate) struct Parts<'a> {
+    pub ps: &'a [f64],
+    pub n: usize,
+    pub hs: &'a [f64],
+    pub cs: &'a [usize],
+    pub h: usize,
+}
+
+pub(crate) fn parts_of(r: &Region) -> Parts
+    ensures { Regions.region_of result.ps.now result.n result.hs.now result.cs.now result.h ≡ r.now }
+{
+    Parts {
+        ps: &r.outer.points,
+        n: r.outer.count,
+        hs: &r.points,
+        cs: &r.counts,
+        h: r.holes,
+    }
+}
 
 // No inset: no rings, and no events.
 pub(crate) fn inset_refused(r: Refusal) -> InsetWritten
@@ -35,57 +59,47 @@ pub(crate) fn made_into(made: NewRegion, out: &mut [f64]) -> RegionWritten
     ensures answered { result ≡ Told.region_made made out.old }
     ensures written { out.new ≡ Told.region_over made out.old }
 {
-    let refusal = made.refusal;
-    if refusal.granted() {
-        let shape = made.shape;
-        let outer: Outline = shape.outer;
-        region_lent::write_region(
-            &outer.points,
-            outer.count,
-            &shape.points,
-            &shape.counts,
-            shape.holes,
-            out,
-        )
+    if made.refusal.granted() {
+        let r = parts_of(&made.shape);
+        region_lent::write_region(r.ps, r.n, r.hs, r.cs, r.h, out)
     } else {
-        region_lent::no_rings(refusal)
+        region_lent::no_rings(made.refusal)
     }
 }
 
 // The region of these numbers, ring after ring: as it is handed in, or checked.
-pub(crate) fn region_by<'a>(stored: bool, lengths: &'a [usize], ps: &'a [f64]) -> NewRegion
+pub(crate) fn region_by(stored: bool, lengths: &[usize], ps: &[f64]) -> NewRegion
     ensures { result ≡ Told.region_by stored lengths.now ps.now }
 {
     if stored {
-        return region_stored::stored(lengths, ps);
+        region_stored::stored(lengths, ps)
+    } else {
+        region_new::new(lengths, ps)
     }
-    region_new::new(lengths, ps)
 }
 
 // Its inset to lent output: what its making refused, then 13 to 19, then 20. One function for both, handed the numbers: a region
 // would be copied on the way.
-pub(crate) fn inset_by<'a>(
+pub(crate) fn inset_by(
     stored: bool,
-    lengths: &'a [usize],
-    ps: &'a [f64],
+    lengths: &[usize],
+    ps: &[f64],
     d: f64,
-    out: &'a mut [f64],
+    out: &mut [f64],
 ) -> InsetWritten
     ensures answered { result ≡ Told.inset_made (Told.region_by stored lengths.now ps.now) d out.old }
     ensures written { out.new ≡ Told.inset_over (Told.region_by stored lengths.now ps.now) d out.old }
 {
     let made = region_by(stored, lengths, ps);
-    let refusal = made.refusal;
-    if refusal.granted() {
-        let shape = made.shape;
-        region_inset_lent::inset_into(shape, d, out)
+    if made.refusal.granted() {
+        region_inset_lent::inset_into(made.shape, d, out)
     } else {
-        inset_refused(refusal)
+        inset_refused(made.refusal)
     }
 }
 
 // The region of these numbers, ring after ring, to lent output: questions 1 to 12 and 27, then 20.
-pub fn region_into<'a>(lengths: &'a [usize], ps: &'a [f64], out: &'a mut [f64]) -> RegionWritten
+pub fn region_into(lengths: &[usize], ps: &[f64], out: &mut [f64]) -> RegionWritten
     ensures answered { result ≡ Told.region_made (Checks.region lengths.now ps.now) out.old }
     ensures written { out.new ≡ Told.region_over (Checks.region lengths.now ps.now) out.old }
 {
@@ -93,12 +107,7 @@ pub fn region_into<'a>(lengths: &'a [usize], ps: &'a [f64], out: &'a mut [f64]) 
 }
 
 // Its inset to lent output: questions 1 to 12 and 27, then 13 to 19, then 20.
-pub fn inset_into<'a>(
-    lengths: &'a [usize],
-    ps: &'a [f64],
-    d: f64,
-    out: &'a mut [f64],
-) -> InsetWritten
+pub fn inset_into(lengths: &[usize], ps: &[f64], d: f64, out: &mut [f64]) -> InsetWritten
     ensures answered { result ≡ Told.inset_made (Checks.region lengths.now ps.now) d out.old }
     ensures written { out.new ≡ Told.inset_over (Checks.region lengths.now ps.now) d out.old }
 {
@@ -106,7 +115,7 @@ pub fn inset_into<'a>(
 }
 
 // The region of given outlines, ring after ring, to lent output: 21, 10 to 12, then 20.
-pub fn given_into<'a>(lengths: &'a [usize], ps: &'a [f64], out: &'a mut [f64]) -> RegionWritten
+pub fn given_into(lengths: &[usize], ps: &[f64], out: &mut [f64]) -> RegionWritten
     ensures answered { result ≡ Told.region_made (Told.given_region lengths.now ps.now) out.old }
     ensures written { out.new ≡ Told.region_over (Told.given_region lengths.now ps.now) out.old }
 {
@@ -114,7 +123,7 @@ pub fn given_into<'a>(lengths: &'a [usize], ps: &'a [f64], out: &'a mut [f64]) -
 }
 
 // A given outline as a region without holes, to lent output: 21, then 20.
-pub fn alone_into<'a>(ps: &'a [f64], out: &'a mut [f64]) -> RegionWritten
+pub fn alone_into(ps: &[f64], out: &mut [f64]) -> RegionWritten
     ensures answered { result ≡ Told.region_made (Told.alone ps.now) out.old }
     ensures written { out.new ≡ Told.region_over (Told.alone ps.now) out.old }
 {
@@ -123,12 +132,7 @@ pub fn alone_into<'a>(ps: &'a [f64], out: &'a mut [f64]) -> RegionWritten
 }
 
 // The inset of a region handed in, to lent output: 21, 13 to 19, then 20.
-pub fn stored_inset_into<'a>(
-    lengths: &'a [usize],
-    ps: &'a [f64],
-    d: f64,
-    out: &'a mut [f64],
-) -> InsetWritten
+pub fn stored_inset_into(lengths: &[usize], ps: &[f64], d: f64, out: &mut [f64]) -> InsetWritten
     ensures answered { result ≡ Told.inset_made (Told.stored_region lengths.now ps.now) d out.old }
     ensures written { out.new ≡ Told.inset_over (Told.stored_region lengths.now ps.now) d out.old }
 {
@@ -136,137 +140,98 @@ pub fn stored_inset_into<'a>(
 }
 
 // The rings of a region handed in, and the vertices of each: 21.
-pub fn stored<'a>(lengths: &'a [usize], ps: &'a [f64]) -> RegionWritten
+pub fn stored(lengths: &[usize], ps: &[f64]) -> RegionWritten
     ensures { result ≡ Told.region_told (Told.handed lengths.now ps.now) }
 {
     let made = region_stored::stored(lengths, ps);
-    region_lent::tell_region(
-        &made.shape.outer.points,
-        made.shape.outer.count,
-        &made.shape.points,
-        &made.shape.counts,
-        made.shape.holes,
-    )
+    let r = parts_of(&made.shape);
+    region_lent::tell_region(r.ps, r.n, r.hs, r.cs, r.h)
 }
 
 // Where a point lies in a region handed in: 21, then 2 of the point.
-pub fn contains<'a>(lengths: &'a [usize], ps: &'a [f64], p: PlanarPoint) -> Placed
+pub fn contains(lengths: &[usize], ps: &[f64], p: PlanarPoint) -> Placed
     ensures { result ≡ Queries.region_contains (Told.handed lengths.now ps.now) p }
 {
     let made = region_stored::stored(lengths, ps);
-    region_ask::contains(
-        &made.shape.outer.points,
-        made.shape.outer.count,
-        &made.shape.points,
-        &made.shape.counts,
-        made.shape.holes,
-        p,
-    )
+    let r = parts_of(&made.shape);
+    region_ask::contains(r.ps, r.n, r.hs, r.cs, r.h, p)
 }
 
 // The nearest point of its boundary, and its distance: 21, then 2 of the point.
-pub fn nearest<'a>(lengths: &'a [usize], ps: &'a [f64], p: PlanarPoint) -> Neared
+pub fn nearest(lengths: &[usize], ps: &[f64], p: PlanarPoint) -> Neared
     ensures { result ≡ Boundary.region_nearest (Told.handed lengths.now ps.now) p }
 {
     let made = region_stored::stored(lengths, ps);
-    region_ask::nearest(
-        &made.shape.outer.points,
-        made.shape.outer.count,
-        &made.shape.points,
-        &made.shape.counts,
-        made.shape.holes,
-        p,
-    )
+    let r = parts_of(&made.shape);
+    region_ask::nearest(r.ps, r.n, r.hs, r.cs, r.h, p)
 }
 
 // Its area: 21.
-pub fn area<'a>(lengths: &'a [usize], ps: &'a [f64]) -> Measured
+pub fn area(lengths: &[usize], ps: &[f64]) -> Measured
     ensures { result ≡ Queries.region_area (Told.handed lengths.now ps.now) }
 {
     let made = region_stored::stored(lengths, ps);
-    region_ask::area(
-        &made.shape.outer.points,
-        made.shape.outer.count,
-        &made.shape.points,
-        &made.shape.counts,
-        made.shape.holes,
-    )
+    let r = parts_of(&made.shape);
+    region_ask::area(r.ps, r.n, r.hs, r.cs, r.h)
 }
 
 // The length of its boundary: 21.
-pub fn perimeter<'a>(lengths: &'a [usize], ps: &'a [f64]) -> Measured
+pub fn perimeter(lengths: &[usize], ps: &[f64]) -> Measured
     ensures { result ≡ Queries.region_perimeter (Told.handed lengths.now ps.now) }
 {
     let made = region_stored::stored(lengths, ps);
-    region_ask::perimeter(
-        &made.shape.outer.points,
-        made.shape.outer.count,
-        &made.shape.points,
-        &made.shape.counts,
-        made.shape.holes,
-    )
+    let r = parts_of(&made.shape);
+    region_ask::perimeter(r.ps, r.n, r.hs, r.cs, r.h)
 }
 
 // An outline that was read, to lent output: what its reading refused, then 20.
+#[tactic(auto, unfolding(outline_lent::specs::Direct::open_direct))]
 pub(crate) fn read_into(o: NewOutline, out: &mut [f64]) -> Counted
     ensures answered { result ≡ Direct.told o out.old }
     ensures written { out.new ≡ Direct.over_outline o out.old }
 {
-    let refusal = o.refusal;
-    if refusal.granted() {
-        let shape = o.shape;
-        let n = shape.count;
-        let r = outline_lent::write_outline(&shape.points, n, out);
+    if o.refusal.granted() {
+        let refusal = outline_lent::write_outline(&o.shape.points, o.shape.count, out);
         Counted {
-            refusal: r,
-            count: base::choose(r.granted(), n, 0),
+            refusal,
+            count: base::choose(refusal.granted(), o.shape.count, 0),
         }
     } else {
         Counted {
-            refusal: refusal,
+            refusal: o.refusal,
             count: 0,
         }
     }
 }
 
 // The outer ring of a region handed in, to lent output: 21, then 20.
-pub fn outer_into<'a>(lengths: &'a [usize], ps: &'a [f64], out: &'a mut [f64]) -> Counted
+pub fn outer_into(lengths: &[usize], ps: &[f64], out: &mut [f64]) -> Counted
     ensures answered { result ≡ Direct.told (Queries.region_outer (Told.handed lengths.now ps.now)) out.old }
     ensures written { out.new ≡ Direct.over_outline (Queries.region_outer (Told.handed lengths.now ps.now))
         out.old }
 {
     let made = region_stored::stored(lengths, ps);
-    let refusal = made.refusal;
-    let outer = made.shape.outer;
     read_into(
         NewOutline {
-            refusal: refusal,
-            shape: outer,
+            refusal: made.refusal,
+            shape: made.shape.outer,
         },
         out,
     )
 }
 
 // Hole k of a region handed in, to lent output: 21, then 20. Where there are no more than k, nothing is written.
-pub fn hole_into<'a>(lengths: &'a [usize], ps: &'a [f64], k: usize, out: &'a mut [f64]) -> Counted
+pub fn hole_into(lengths: &[usize], ps: &[f64], k: usize, out: &mut [f64]) -> Counted
     ensures answered { result ≡ Told.hole_told (Told.handed lengths.now ps.now) k out.old }
     ensures written { out.new ≡ Told.hole_over (Told.handed lengths.now ps.now) k out.old }
 {
     let made = region_stored::stored(lengths, ps);
     if k < made.shape.holes {
-        let o = region_ask::hole(
-            &made.shape.outer.points,
-            made.shape.outer.count,
-            &made.shape.points,
-            &made.shape.counts,
-            made.shape.holes,
-            k,
-        );
-        read_into(o, out)
+        let r = parts_of(&made.shape);
+        read_into(region_ask::hole(r.ps, r.n, r.hs, r.cs, r.h, k), out)
     } else {
-        let refusal = made.refusal;
         Counted {
-            refusal: refusal,
+            refusal: made.refusal,
             count: 0,
         }
     }

@@ -2,7 +2,7 @@
 use Prim.Native.Nat.{ℕ, ◌+◌, ◌-◌, ◌≤◌, ◌<◌}
 use native.Mathlib.Nat.{le_antisymm}
 use native.Mathlib.Omega.{arith}
-use mathlib.Core.Path.{◌≡◌, refl, sym, ap, ◌∙◌}
+use mathlib.Core.Path.{◌≡◌, refl, sym, ap, subst, ◌∙◌}
 use mathlib.Core.Bool.{Bool, true, false, not, cond, ◌||◌}
 use mathlib.Core.List.{List}
 use borrow.Author.Tests.{not-true, not-false, le-leb, lt-leb}
@@ -17,7 +17,7 @@ use Rattle.ring.specs.Ring.{vertex_at}
 use Rattle.plane.specs.declared.PlanarPoint.{PlanarPoint}
 use Rattle.ring_contain.specs.Contains.{ring_contains}
 use Rattle.ring_cross.specs.Meet.{rings_meet}
-use Rattle.offset.specs.Clear.{is_outside}
+use Rattle.offset.specs.Clear.{right_side}
 use Rattle.region.specs.Regions.{hole_points, hole_count, region_of}
 use Rattle.region.specs.Checks
 use Rattle.region.specs.Checks.{hole_step, check_holes, holes_touch, second_step, first_step, then_apart, check_region}
@@ -59,27 +59,39 @@ module _ (ps : List Float) (n : ℕ) (hs : List Float) (cs : List ℕ) (h : ℕ)
     unfolding hole_step check_holes region_of hole_points hole_count hole_fits
     holes_fit l m = sym (asks_end step_of fits_or (λ (j : ℕ) (s : Refusal). refl) k none h l m)
 
--- ---- question 12 of a hole and one hole after the other
-module _ (hs : List Float) (cs : List ℕ) (h i k : ℕ) where
+-- ---- question 12 of a hole and one hole after the other: hole j is asked in round j - (i + 1)
+module _ (hs : List Float) (cs : List ℕ) (i : ℕ) where
   abbrev touch_or : ℕ → Refusal
-  touch_or j = cond (pair_touches hs cs i (i + 1 + j)) (HolesTouch i (i + 1 + j)) Granted
+  touch_or k = cond (pair_touches hs cs i (i + 1 + k)) (HolesTouch i (i + 1 + k)) Granted
 
-  module _ (next rest : ℕ) (en : next ≡ i + 1) (er : rest ≡ h - next) (none : rounds (after_step hs cs i) k Granted ≡ Granted) where
-    pub pair_apart : (r : Bool) → r ≡ pair_touches hs cs i (next + k) → r ≡ false → rounds (after_step hs cs i) (k + 1) Granted ≡ Granted
+  pub no_pair : rounds (after_step hs cs i) (i + 1 - (i + 1)) Granted ≡ Granted
+  no_pair =
+      let e : 0 ≡ i + 1 - (i + 1) = omega arith in
+      subst (λ (m : ℕ). rounds (after_step hs cs i) m Granted ≡ Granted) e (no_round (after_step hs cs i) Granted)
+
+  module _ (j : ℕ) (after : i + 1 ≤ j) (none : rounds (after_step hs cs i) (j - (i + 1)) Granted ≡ Granted) where
+    at : i + 1 + (j - (i + 1)) ≡ j
+    at = omega arith
+
+    pub pair_apart : (r : Bool) → r ≡ pair_touches hs cs i j → r ≡ false → rounds (after_step hs cs i) (j + 1 - (i + 1)) Granted ≡ Granted
     unfolding after_step
-    pair_apart r e t = asks_on (after_step hs cs i) touch_or (λ (j : ℕ) (s : Refusal). refl) k none (rw (← en, ← e, t) refl)
+    pair_apart r e t =
+        let on : j - (i + 1) + 1 ≡ j + 1 - (i + 1) = omega arith in
+        subst (λ (m : ℕ). rounds (after_step hs cs i) m Granted ≡ Granted) on
+        (asks_on (after_step hs cs i) touch_or (λ (k : ℕ) (s : Refusal). refl) (j - (i + 1)) none (rw (at, ← e, t) refl))
 
-    pub pair_found : k < rest → (r : Bool) → r ≡ pair_touches hs cs i (next + k) → r ≡ true → HolesTouch i (next + k) ≡ apart_from hs cs h i
+    pub pair_found : (h : ℕ) → j < h → (r : Bool) → r ≡ pair_touches hs cs i j → r ≡ true → HolesTouch i j ≡ apart_from hs cs h i
     unfolding after_step apart_from granted number values
-    pair_found l r e t =
-        sym (refused_at (after_step hs cs i) touch_or (λ (j : ℕ) (s : Refusal). refl) k none (h - (i + 1)) (omega arith) (HolesTouch i (next + k)) (rw (← en, ← e, t) refl) refl)
+    pair_found h l r e t =
+        sym (refused_at (after_step hs cs i) touch_or (λ (k : ℕ) (s : Refusal). refl) (j - (i + 1)) none (h - (i + 1)) (omega arith) (HolesTouch i j) (rw (at, ← e, t) refl) refl)
 
-    pub pairs_apart : k ≤ rest → rest ≤ k → Granted ≡ apart_from hs cs h i
+    pub pairs_apart : (h : ℕ) → j ≤ h → h ≤ j → Granted ≡ apart_from hs cs h i
     unfolding after_step apart_from
-    pairs_apart l m = sym (asks_end (after_step hs cs i) touch_or (λ (j : ℕ) (s : Refusal). refl) k none (h - (i + 1)) (omega arith) (omega arith))
+    pairs_apart h l m = sym (asks_end (after_step hs cs i) touch_or (λ (k : ℕ) (s : Refusal). refl) (j - (i + 1)) none (h - (i + 1)) (omega arith) (omega arith))
 
 pub none_after : (hs : List Float) (cs : List ℕ) (h i : ℕ) → h ≤ i → Granted ≡ apart_from hs cs h i
-none_after hs cs h i l = pairs_apart hs cs h i 0 (i + 1) (h - (i + 1)) refl refl (no_round (after_step hs cs i) Granted) (omega arith) (omega arith)
+unfolding after_step apart_from
+none_after hs cs h i l = sym (asks_end (after_step hs cs i) (touch_or hs cs i) (λ (k : ℕ) (s : Refusal). refl) 0 (no_round (after_step hs cs i) Granted) (h - (i + 1)) (omega arith) (omega arith))
 
 -- ---- question 12 of one hole after the other
 module _ (hs : List Float) (cs : List ℕ) (h i : ℕ) (none : rounds (apart_step hs cs h) i Granted ≡ Granted) (r : Refusal) (e : r ≡ apart_from hs cs h i) (g : Bool) (t : g ≡ granted r) where
@@ -102,8 +114,8 @@ module _ (ps : List Float) (n : ℕ) (qs : List Float) (m : ℕ) (t : Bool) (e :
   edges_touch h = rw (← e, h) refl
 
   pub one_holds : t ≡ false → (p q : PlanarPoint) (a b : Bool) → p ≡ vertex_at ps 0 → q ≡ vertex_at qs 0 →
-      a ≡ is_outside (ring_contains qs m p) → b ≡ is_outside (ring_contains ps n q) → (not a || not b) ≡ holes_touch ps n qs m
-  unfolding holes_touch
+      a ≡ right_side true (ring_contains qs m p) → b ≡ right_side true (ring_contains ps n q) → (not a || not b) ≡ holes_touch ps n qs m
+  unfolding holes_touch right_side
   one_holds h p q a b ep eq ea eb = rw (← e, h, ← ep, ← eq, ← ea, ← eb) refl
 
 -- ---- questions 10 to 12

@@ -11,80 +11,53 @@ ghost use Rattle.region_check.specs.Apart;
 use error::Refusal;
 use plane::PlanarPoint;
 
-pub(crate) fn inside_of(ps: &[f64], n: usize, p: PlanarPoint) -> bool
-    ensures { result ≡ Checks.inside_of ps.now n p }
+// Whether p lies outside of the ring, where `outward` is asked for, else inside.
+pub(crate) fn lies(outward: bool, ps: &[f64], n: usize, p: PlanarPoint) -> bool
+    ensures { result ≡ Clear.right_side outward (Contains.ring_contains ps.now n p) }
 {
-    offset_clear::right_side(false, ring_contain::ring_contains(ps, n, p))
-}
-
-pub(crate) fn outside_of(ps: &[f64], n: usize, p: PlanarPoint) -> bool
-    ensures { result ≡ Clear.is_outside (Contains.ring_contains ps.now n p) }
-{
-    offset_clear::right_side(true, ring_contain::ring_contains(ps, n, p))
+    offset_clear::right_side(outward, ring_contain::ring_contains(ps, n, p))
 }
 
 // Whether every vertex of the second ring lies inside the first.
-pub(crate) fn all_inside<'a>(ps: &'a [f64], n: usize, qs: &'a [f64], m: usize) -> bool
+pub(crate) fn all_inside(ps: &[f64], n: usize, qs: &[f64], m: usize) -> bool
     ensures { result ≡ Clear.every_vertex (Checks.inside_of ps.now n) qs.now m }
 {
-    let mut k = 0;
-    while k < m {
-        let q = ring::vertex_at(qs, k);
-        if !inside_of(ps, n, q) {
-            return false;
-        }
-        k += 1;
-    }
-    true
+    (0..m).all(|k| lies(false, ps, n, ring::vertex_at(qs, k)))
 }
 
 // Question 11 of one hole: every vertex inside the outer ring, and no edge that meets it.
-pub(crate) fn hole_free<'a>(ps: &'a [f64], n: usize, qs: &'a [f64], m: usize) -> bool
+pub(crate) fn hole_free(ps: &[f64], n: usize, qs: &[f64], m: usize) -> bool
     ensures { result ≡ Checks.hole_free ps.now n qs.now m }
 {
-    if all_inside(ps, n, qs, m) {
-        return !ring_cross::rings_meet(ps, n, qs, m);
-    }
-    false
+    all_inside(ps, n, qs, m) && !ring_cross::rings_meet(ps, n, qs, m)
 }
 
 // Question 11 of hole k.
-pub(crate) fn hole_fits<'a>(
-    ps: &'a [f64],
-    n: usize,
-    hs: &'a [f64],
-    cs: &'a [usize],
-    k: usize,
-) -> bool
+pub(crate) fn hole_fits(ps: &[f64], n: usize, hs: &[f64], cs: &[usize], k: usize) -> bool
     ensures { result ≡ Apart.hole_fits ps.now n hs.now cs.now k }
 {
-    let m = region_given::count_at(cs, k);
-    let hole = region_given::hole_points(hs, k);
-    hole_free(ps, n, hole, m)
+    hole_free(
+        ps,
+        n,
+        region_given::hole_points(hs, k),
+        region_given::count_at(cs, k),
+    )
 }
 
 // The first hole that is not free of the outer ring is refused.
-pub(crate) fn check_holes<'a>(
-    ps: &'a [f64],
-    n: usize,
-    hs: &'a [f64],
-    cs: &'a [usize],
-    h: usize,
-) -> Refusal
+pub(crate) fn check_holes(ps: &[f64], n: usize, hs: &[f64], cs: &[usize], h: usize) -> Refusal
     ensures { result ≡ Checks.check_holes (Regions.region_of ps.now n hs.now cs.now h) }
 {
-    let mut k = 0;
-    while k < h {
+    for k in 0..h {
         if !hole_fits(ps, n, hs, cs, k) {
             return Refusal::HoleOutside(k);
         }
-        k += 1;
     }
     Refusal::Granted
 }
 
 // Question 12 of two holes: an edge of one meets an edge of the other, or one holds the other's first vertex.
-pub(crate) fn holes_touch<'a>(ps: &'a [f64], n: usize, qs: &'a [f64], m: usize) -> bool
+pub(crate) fn holes_touch(ps: &[f64], n: usize, qs: &[f64], m: usize) -> bool
     ensures { result ≡ Checks.holes_touch ps.now n qs.now m }
 {
     if ring_cross::rings_meet(ps, n, qs, m) {
@@ -92,11 +65,11 @@ pub(crate) fn holes_touch<'a>(ps: &'a [f64], n: usize, qs: &'a [f64], m: usize) 
     }
     let first = ring::vertex_at(ps, 0);
     let second = ring::vertex_at(qs, 0);
-    !outside_of(qs, m, first) | !outside_of(ps, n, second)
+    !lies(true, qs, m, first) | !lies(true, ps, n, second)
 }
 
 // Question 12 of the holes i and j.
-pub(crate) fn pair_touches<'a>(hs: &'a [f64], cs: &'a [usize], i: usize, j: usize) -> bool
+pub(crate) fn pair_touches(hs: &[f64], cs: &[usize], i: usize, j: usize) -> bool
     ensures { result ≡ Apart.pair_touches hs.now cs.now i j }
 {
     let n = region_given::count_at(cs, i);
@@ -107,48 +80,36 @@ pub(crate) fn pair_touches<'a>(hs: &'a [f64], cs: &'a [usize], i: usize, j: usiz
 }
 
 // The first hole after hole i that touches it.
-pub(crate) fn apart_from<'a>(hs: &'a [f64], cs: &'a [usize], h: usize, i: usize) -> Refusal
+pub(crate) fn apart_from(hs: &[f64], cs: &[usize], h: usize, i: usize) -> Refusal
     ensures { result ≡ Apart.apart_from hs.now cs.now h i }
 {
     if h <= i {
         return Refusal::Granted;
     }
     let next = i + 1;
-    let rest = h - next;
-    let mut k = 0;
-    while k < rest {
-        let j = next + k;
+    for j in next..h {
         if pair_touches(hs, cs, i, j) {
             return Refusal::HolesTouch(i, j);
         }
-        k += 1;
     }
     Refusal::Granted
 }
 
 // The first two holes that touch are refused.
-pub(crate) fn check_apart<'a>(hs: &'a [f64], cs: &'a [usize], h: usize) -> Refusal
+pub(crate) fn check_apart(hs: &[f64], cs: &[usize], h: usize) -> Refusal
     ensures { result ≡ Apart.check_apart hs.now cs.now h }
 {
-    let mut i = 0;
-    while i < h {
+    for i in 0..h {
         let r = apart_from(hs, cs, h, i);
         if !r.granted() {
             return r;
         }
-        i += 1;
     }
     Refusal::Granted
 }
 
 // Questions 10 to 12 of a region.
-pub fn check_region<'a>(
-    ps: &'a [f64],
-    n: usize,
-    hs: &'a [f64],
-    cs: &'a [usize],
-    h: usize,
-) -> Refusal
+pub fn check_region(ps: &[f64], n: usize, hs: &[f64], cs: &[usize], h: usize) -> Refusal
     ensures { result ≡ Checks.check_region (Regions.region_of ps.now n hs.now cs.now h) }
 {
     if 8 < h {

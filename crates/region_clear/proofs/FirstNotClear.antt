@@ -1,7 +1,5 @@
 -- Walks over a region's holes that end at the first ring that is not clear. Assumes nothing.
-use Prim.Native.Nat.{ℕ, ◌+◌, ◌*◌, ◌≤◌, ◌<◌}
-use native.Mathlib.Nat.{le_antisymm}
-use native.Mathlib.Omega.{arith}
+use Prim.Native.Nat.{ℕ, ◌*◌}
 use mathlib.Core.Path.{◌≡◌, refl, sym, ap, ◌∙◌}
 use mathlib.Core.Bool.{Bool, true, false, not, ◌&&◌}
 use mathlib.Core.List.{List}
@@ -9,7 +7,7 @@ use borrow.Author.Tests.{not-true, not-false}
 use lib.ListN.{get_or, drop}
 use lib.Ieee.{Float}
 use Rattle.base.specs.Loop.{rounds}
-use Rattle.base.proofs.Laws.{no_round, next_round, still, stays_to}
+use Rattle.base.proofs.Laws.{still, rounds_same}
 use Rattle.region.specs.declared.Region.{Region}
 use Rattle.region.specs.Regions.{hole_points, hole_count, region_of}
 use Rattle.region.specs.Insets.{region_keeps_clear, crosses}
@@ -17,100 +15,42 @@ use Rattle.offset_clear.specs.Rings.{ring_stays_clear}
 use Rattle.region_clear.specs.Apart.{hole_apart_step, ring_apart, region_apart_step, region_apart}
 use Rattle.region_clear.proofs.Pairs.{apart_is}
 
+-- the ring qs against hole k, and hole k of a second region against the first
+abbrev pub hole_clear : Float → List Float → List ℕ → List Float → ℕ → ℕ → Bool
+hole_clear least hs cs qs m k = ring_stays_clear true least (drop (64 * k) hs) (get_or cs k 0) qs m
+
+abbrev pub hole_apart : Float → Region → List Float → List ℕ → ℕ → Bool
+hole_apart least r gs ds k = ring_apart least r (drop (64 * k) gs) (get_or ds k 0)
+
 -- ---- a walk whose body asks one test more each round, `s && test k`, after the test b
-module _ (f : ℕ → Bool → Bool) (test : ℕ → Bool) (body : (k : ℕ) (s : Bool) → f k s ≡ (s && test k)) (b x : Bool) where
-  begins : x ≡ b → not x ≡ false → rounds f 0 b ≡ true
-  begins e h = no_round f b ∙ sym e ∙ not-false x h
+module _ (f : ℕ → Bool → Bool) (test : ℕ → Bool) (body : (k : ℕ) (s : Bool) → f k s ≡ (s && test k)) (b x : Bool) (e : x ≡ b) (n : ℕ) where
+  first_fails : not x ≡ true → false ≡ rounds f n b
+  first_fails h = rw (sym e ∙ not-true x h) (sym (still f false (λ (k : ℕ). body k false) n))
 
-  first_fails : (n : ℕ) → x ≡ b → not x ≡ true → false ≡ rounds f n b
-  first_fails n e h = rw (sym e ∙ not-true x h) (sym (still f false (λ (k : ℕ). body k false) n))
-
-  module _ (k : ℕ) (all : rounds f k b ≡ true) where
-    step : rounds f (k + 1) b ≡ test k
-    step = next_round f k b ∙ body k (rounds f k b) ∙ ap (λ (s : Bool). s && test k) all
-
-    goes : x ≡ test k → not x ≡ false → rounds f (k + 1) b ≡ true
-    goes e h = step ∙ sym e ∙ not-false x h
-
-    fails : (n : ℕ) → k < n → x ≡ test k → not x ≡ true → false ≡ rounds f n b
-    fails n l e h = sym (stays_to f b false (k + 1) n (omega arith) (step ∙ sym e ∙ not-true x h) (λ (j : ℕ). body j false))
-
-    ends : (n : ℕ) → k ≤ n → n ≤ k → true ≡ rounds f n b
-    ends n l h = sym (ap (λ (m : ℕ). rounds f m b) (le_antisymm h l) ∙ all)
+  -- the rounds of a walk that asks these tests alone
+  goes_on : not x ≡ false → rounds (λ (k : ℕ) (s : Bool). s && test k) n true ≡ rounds f n b
+  goes_on h = rounds_same _ f n true (λ k l s. sym (body k s)) ∙ ap (rounds f n) (sym (sym e ∙ not-false x h))
 
 -- ---- one ring against the rings of a region
-module _ (least : Float) (ps : List Float) (n : ℕ) (hs : List Float) (cs : List ℕ) (h : ℕ) (qs : List Float) (m : ℕ) where
-  abbrev source : Region
-  source = region_of ps n hs cs h
-
-  -- after k holes
-  unfoldable pub ring_clear : ℕ → Bool
-  ring_clear k = rounds (hole_apart_step least source qs m) k (ring_stays_clear false least ps n qs m)
-
-  abbrev ring_test : ℕ → Bool
-  ring_test k = ring_stays_clear true least (drop (64 * k) hs) (get_or cs k 0) qs m
-
-  same_test : (k : ℕ) (hole : List Float) (count : ℕ) (x : Bool) → hole ≡ drop (64 * k) hs → count ≡ get_or cs k 0 → x ≡ ring_stays_clear true least hole count qs m → x ≡ ring_test k
-  same_test k hole count x e f i = i ∙ rw (e, f) refl
-
-  pub ring_begins : (x : Bool) → x ≡ ring_stays_clear false least ps n qs m → not x ≡ false → ring_clear 0 ≡ true
-  unfolding hole_apart_step hole_points hole_count region_of ring_clear
-  ring_begins x = begins (hole_apart_step least source qs m) ring_test (λ (j : ℕ) (s : Bool). refl) (ring_stays_clear false least ps n qs m) x
-
-  pub ring_first_fails : (x : Bool) → x ≡ ring_stays_clear false least ps n qs m → not x ≡ true → false ≡ ring_apart least source qs m
+module _ (least : Float) (ps : List Float) (n : ℕ) (hs : List Float) (cs : List ℕ) (h : ℕ) (qs : List Float) (m : ℕ) (x : Bool) (e : x ≡ ring_stays_clear false least ps n qs m) where
+  pub ring_first_fails : not x ≡ true → false ≡ ring_apart least (region_of ps n hs cs h) qs m
   unfolding ring_apart hole_apart_step hole_points hole_count region_of
-  ring_first_fails x = first_fails (hole_apart_step least source qs m) ring_test (λ (j : ℕ) (s : Bool). refl) (ring_stays_clear false least ps n qs m) x h
+  ring_first_fails = first_fails _ (hole_clear least hs cs qs m) (λ (j : ℕ) (s : Bool). refl) _ x e h
 
-  module _ (k : ℕ) (all : ring_clear k ≡ true) where
-    module _ (hole : List Float) (count : ℕ) (x : Bool) (e : hole ≡ drop (64 * k) hs) (f : count ≡ get_or cs k 0) (i : x ≡ ring_stays_clear true least hole count qs m) where
-      pub ring_goes : not x ≡ false → ring_clear (k + 1) ≡ true
-      unfolding hole_apart_step hole_points hole_count region_of ring_clear
-      ring_goes = goes (hole_apart_step least source qs m) ring_test (λ (j : ℕ) (s : Bool). refl) (ring_stays_clear false least ps n qs m) x k all (same_test k hole count x e f i)
-
-      pub ring_fails : k < h → not x ≡ true → false ≡ ring_apart least source qs m
-      unfolding ring_apart hole_apart_step hole_points hole_count region_of ring_clear
-      ring_fails l = fails (hole_apart_step least source qs m) ring_test (λ (j : ℕ) (s : Bool). refl) (ring_stays_clear false least ps n qs m) x k all h l (same_test k hole count x e f i)
-
-    pub ring_ends : k ≤ h → h ≤ k → true ≡ ring_apart least source qs m
-    unfolding ring_apart hole_apart_step hole_points hole_count region_of ring_clear
-    ring_ends = ends (hole_apart_step least source qs m) ring_test (λ (j : ℕ) (s : Bool). refl) (ring_stays_clear false least ps n qs m) true k all h
+  pub ring_told : not x ≡ false → (r : Bool) → r ≡ rounds (λ (k : ℕ) (s : Bool). s && hole_clear least hs cs qs m k) h true → r ≡ ring_apart least (region_of ps n hs cs h) qs m
+  unfolding ring_apart hole_apart_step hole_points hole_count region_of
+  ring_told t r i = i ∙ goes_on _ (hole_clear least hs cs qs m) (λ (j : ℕ) (s : Bool). refl) _ x e h t
 
 -- ---- the rings of a second region against those of the first
 module _ (least : Float) (r : Region) (qs : List Float) (m : ℕ) (gs : List Float) (ds : List ℕ) (g : ℕ) where
-  abbrev inner : Region
-  inner = region_of qs m gs ds g
-
   abbrev clear : Bool
-  clear = region_keeps_clear least r inner && not (crosses r inner)
+  clear = region_keeps_clear least r (region_of qs m gs ds g) && not (crosses r (region_of qs m gs ds g))
 
-  -- after k holes
-  unfoldable pub rings_clear : ℕ → Bool
-  rings_clear k = rounds (region_apart_step least r inner) k (ring_apart least r qs m)
+  module _ (x : Bool) (e : x ≡ ring_apart least r qs m) where
+    pub rings_first_fail : not x ≡ true → false ≡ clear
+    unfolding region_apart region_apart_step hole_points hole_count region_of
+    rings_first_fail t = first_fails _ (hole_apart least r gs ds) (λ (j : ℕ) (s : Bool). refl) _ x e g t ∙ apart_is least r (region_of qs m gs ds g)
 
-  abbrev rings_test : ℕ → Bool
-  rings_test k = ring_apart least r (drop (64 * k) gs) (get_or ds k 0)
-
-  tested : (k : ℕ) (hole : List Float) (count : ℕ) (x : Bool) → hole ≡ drop (64 * k) gs → count ≡ get_or ds k 0 → x ≡ ring_apart least r hole count → x ≡ rings_test k
-  tested k hole count x e f i = i ∙ rw (e, f) refl
-
-  pub rings_begin : (x : Bool) → x ≡ ring_apart least r qs m → not x ≡ false → rings_clear 0 ≡ true
-  unfolding region_apart_step hole_points hole_count region_of rings_clear
-  rings_begin x = begins (region_apart_step least r inner) rings_test (λ (j : ℕ) (s : Bool). refl) (ring_apart least r qs m) x
-
-  pub rings_first_fail : (x : Bool) → x ≡ ring_apart least r qs m → not x ≡ true → false ≡ clear
-  unfolding region_apart region_apart_step hole_points hole_count region_of
-  rings_first_fail x e t = first_fails (region_apart_step least r inner) rings_test (λ (j : ℕ) (s : Bool). refl) (ring_apart least r qs m) x g e t ∙ apart_is least r inner
-
-  module _ (k : ℕ) (all : rings_clear k ≡ true) where
-    module _ (hole : List Float) (count : ℕ) (x : Bool) (e : hole ≡ drop (64 * k) gs) (f : count ≡ get_or ds k 0) (i : x ≡ ring_apart least r hole count) where
-      pub rings_go : not x ≡ false → rings_clear (k + 1) ≡ true
-      unfolding region_apart_step hole_points hole_count region_of rings_clear
-      rings_go = goes (region_apart_step least r inner) rings_test (λ (j : ℕ) (s : Bool). refl) (ring_apart least r qs m) x k all (tested k hole count x e f i)
-
-      pub rings_fail : k < g → not x ≡ true → false ≡ clear
-      unfolding region_apart region_apart_step hole_points hole_count region_of rings_clear
-      rings_fail l t = fails (region_apart_step least r inner) rings_test (λ (j : ℕ) (s : Bool). refl) (ring_apart least r qs m) x k all g l (tested k hole count x e f i) t ∙ apart_is least r inner
-
-    pub rings_end : k ≤ g → g ≤ k → true ≡ clear
-    unfolding region_apart region_apart_step hole_points hole_count region_of rings_clear
-    rings_end l t = ends (region_apart_step least r inner) rings_test (λ (j : ℕ) (s : Bool). refl) (ring_apart least r qs m) true k all g l t ∙ apart_is least r inner
+    pub rings_told : not x ≡ false → (b : Bool) → b ≡ rounds (λ (k : ℕ) (s : Bool). s && hole_apart least r gs ds k) g true → b ≡ clear
+    unfolding region_apart region_apart_step hole_points hole_count region_of
+    rings_told t b i = i ∙ goes_on _ (hole_apart least r gs ds) (λ (j : ℕ) (s : Bool). refl) _ x e g t ∙ apart_is least r (region_of qs m gs ds g)

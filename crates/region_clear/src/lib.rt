@@ -8,14 +8,14 @@ ghost use Rattle.region.specs.Insets;
 ghost use Rattle.region_clear.specs.Apart;
 
 // Whether the ring qs stays clear of each ring of a region: inside the outer one, and outside the holes.
-pub(crate) fn ring_apart<'a>(
+pub(crate) fn ring_apart(
     least: f64,
-    ps: &'a [f64],
+    ps: &[f64],
     n: usize,
-    hs: &'a [f64],
-    cs: &'a [usize],
+    hs: &[f64],
+    cs: &[usize],
     h: usize,
-    qs: &'a [f64],
+    qs: &[f64],
     m: usize,
 ) -> bool
     ensures { result ≡ Apart.ring_apart least (region_of ps.now n hs.now cs.now h) qs.now m }
@@ -23,30 +23,24 @@ pub(crate) fn ring_apart<'a>(
     if !offset_clear::ring_stays_clear(false, least, ps, n, qs, m) {
         return false;
     }
-    let mut k = 0;
-    while k < h {
+    (0..h).all(|k| {
         let hole = region_given::hole_points(hs, k);
-        let count = region_given::count_at(cs, k);
-        if !offset_clear::ring_stays_clear(true, least, hole, count, qs, m) {
-            return false;
-        }
-        k += 1;
-    }
-    true
+        offset_clear::ring_stays_clear(true, least, hole, region_given::count_at(cs, k), qs, m)
+    })
 }
 
 // Whether the second region keeps clear of the first and crosses it nowhere.
-pub fn stays_clear<'a>(
+pub fn stays_clear(
     least: f64,
-    ps: &'a [f64],
+    ps: &[f64],
     n: usize,
-    hs: &'a [f64],
-    cs: &'a [usize],
+    hs: &[f64],
+    cs: &[usize],
     h: usize,
-    qs: &'a [f64],
+    qs: &[f64],
     m: usize,
-    gs: &'a [f64],
-    ds: &'a [usize],
+    gs: &[f64],
+    ds: &[usize],
     g: usize,
 ) -> bool
     ensures { result ≡
@@ -59,14 +53,8 @@ pub fn stays_clear<'a>(
     if !ring_apart(least, ps, n, hs, cs, h, qs, m) {
         return false;
     }
-    let mut k = 0;
-    while k < g {
+    (0..g).all(|k| {
         let hole = region_given::hole_points(gs, k);
-        let count = region_given::count_at(ds, k);
-        if !ring_apart(least, ps, n, hs, cs, h, hole, count) {
-            return false;
-        }
-        k += 1;
-    }
-    true
+        ring_apart(least, ps, n, hs, cs, h, hole, region_given::count_at(ds, k))
+    })
 }

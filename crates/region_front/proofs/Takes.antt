@@ -20,8 +20,8 @@ use Rattle.ring.specs.Ring.{vertex_at, following}
 use Rattle.outline.specs.Outlines.{proper}
 use Rattle.front.specs.declared.Loaded.{Loaded}
 use Rattle.front.specs.declared.Sweep.{Sweep}
-use Rattle.front.specs.declared.Through.{Through}
-use Rattle.front.specs.declared.Through.TheVariants.{NoLine, Along}
+use Rattle.front.specs.declared.Line.{Line}
+use Rattle.std.specs.Prelude.{Option, None, Some}
 use Rattle.front.specs.Lines.{through}
 use Rattle.front.specs.Loading.{loaded_nothing, load_refused, load_vertex, has_room, load_line, load_edge, load_step, ring_begun, load_ring}
 use Rattle.front.specs.Sweeps.{offset_rings}
@@ -38,10 +38,10 @@ record Holds (r : ℕ) (s : Loaded) : Type 0 where
   used : s.used ≤ 128
   rings : s.rings ≡ r
 
-line_holds : (d : Float) (first n k r : ℕ) (a : PlanarPoint) (s : Loaded) (t : Through) → Holds r s → Holds r (load_line d first n k a s t)
+line_holds : (d : Float) (first n k r : ℕ) (a : PlanarPoint) (s : Loaded) (t : Option Line) → Holds r s → Holds r (load_line d first n k a s t)
 unfolding load_line load_refused has_room
-line_holds d first n k r a s NoLine h = record { used = h.used; rings = h.rings }
-line_holds d first n k r a s (Along l) h =
+line_holds d first n k r a s None h = record { used = h.used; rings = h.rings }
+line_holds d first n k r a s (Some l) h =
     by_test (Holds r) (ltb s.used 128) (λ e. record { used = omega (arith, ltb-true s.used 128 e); rings = h.rings }) (λ e. record { used = h.used; rings = h.rings })
 
 ring_holds : (ps : List Float) (n : ℕ) (back : Bool) (origin : PlanarPoint) (d : Float) (r : ℕ) (s : Loaded) → Holds r s → Holds (r + 1) (load_ring ps n back origin d s)

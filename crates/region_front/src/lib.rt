@@ -9,11 +9,11 @@ use front::{Loaded, Sweep};
 use plane::PlanarPoint;
 
 // The outer ring, then hole after hole.
-pub(crate) fn load_rings<'a>(
-    ps: &'a [f64],
+pub(crate) fn load_rings(
+    ps: &[f64],
     n: usize,
-    hs: &'a [f64],
-    cs: &'a [usize],
+    hs: &[f64],
+    cs: &[usize],
     h: usize,
     origin: PlanarPoint,
     d: f64,
@@ -21,26 +21,16 @@ pub(crate) fn load_rings<'a>(
     ensures { result ≡ Rings.load_rings ps.now n hs.now cs.now h origin d }
 {
     let mut s = front_load::load_outer(ps, n, false, origin, d);
-    let mut k = 0;
-    while k < h {
+    for k in 0..h {
         let hole = region_given::hole_points(hs, k);
         let count = region_given::count_at(cs, k);
-        let next = front_load::load_next(hole, count, true, origin, d, s);
-        s = next;
-        k += 1;
+        front_load::load_next(hole, count, true, origin, d, &mut s);
     }
     s
 }
 
 // The front's work for a region. A refused front is left out.
-pub fn region_sweep<'a>(
-    ps: &'a [f64],
-    n: usize,
-    hs: &'a [f64],
-    cs: &'a [usize],
-    h: usize,
-    d: f64,
-) -> Sweep
+pub fn region_sweep(ps: &[f64], n: usize, hs: &[f64], cs: &[usize], h: usize, d: f64) -> Sweep
     ensures { result ≡ Acts.cleared (Rings.sweep_rings ps.now n hs.now cs.now h d) }
 {
     let origin = ring::vertex_at(ps, 0);

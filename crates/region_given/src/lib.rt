@@ -2,13 +2,12 @@
 // are.
 #![tactic(auto)]
 
-ghost use Rattle.std.specs.Prelude.{◌≡◌, ◌*◌, ◌≤◌, get_or, drop, length};
+ghost use Rattle.std.specs.Prelude.{◌≡◌, cond, ◌*◌, ◌≤◌, ltb, get_or, drop, length, set};
 ghost use Rattle.ring.specs.Store;
 ghost use Rattle.region.specs.Regions;
 ghost use Rattle.region.specs.Checks;
 ghost use Rattle.region.specs.Queries;
 ghost use Rattle.region_given.specs.Given;
-ghost use Rattle.region_given.specs.Filing;
 
 use error::Refusal;
 use outline::entry;
@@ -18,7 +17,7 @@ use region::Region;
 pub fn count_at(cs: &[usize], k: usize) -> usize
     ensures { result ≡ get_or cs.now k 0 }
 {
-    if k < cs.len() { cs[k] } else { 0 }
+    cs.get(k).copied().unwrap_or(0)
 }
 
 // The numbers from hole k on.
@@ -40,30 +39,32 @@ pub(crate) fn store_ring(ps: &[f64], n: usize, back: bool, base: usize, out: &mu
     ensures { out.new ≡ Store.stored ps.now n back base out.old }
 {
     let room = 256 - base;
-    let mut k = 0;
-    while k < n {
+    for k in 0..n {
         let v = ring::stored_at(ps, n, back, k);
-        let at = k;
-        k += 1;
-        if at < room {
-            let place = base + at;
+        if k < room {
+            let place = base + k;
             out[2 * place] = v.east;
             out[2 * place + 1] = v.north;
         }
     }
 }
 
-// The same for any base and any numbers: where they are not those of a region's holes, nothing is stored.
-pub fn file_ring(ps: &[f64], n: usize, back: bool, base: usize, out: &mut [f64])
-    ensures { out.new ≡ Filing.filed ps.now n back base out.old }
+// A ring in the place of hole k: its numbers where they lie, and its count. One past the eighth is left out.
+pub fn put_hole(
+    ps: &[f64],
+    n: usize,
+    back: bool,
+    k: usize,
+    points: &mut [f64; 512],
+    counts: &mut [usize; 8],
+)
+    ensures numbers { points.new ≡ cond (ltb k 8) (Store.stored ps.now n back (32 * k) points.old) points.old }
+    ensures vertices { counts.new ≡ cond (ltb k 8) (set counts.old k n) counts.old }
 {
-    if 256 < base {
-        return;
+    if k < 8 {
+        store_ring(ps, n, back, 32 * k, points);
+        counts[k] = n;
     }
-    if !(out.len() == 512) {
-        return;
-    }
-    store_ring(ps, n, back, base, out);
 }
 
 pub fn no_region() -> Region
@@ -78,51 +79,29 @@ pub fn no_region() -> Region
 }
 
 // Question 21 of one hole.
-pub(crate) fn proper_hole<'a>(hs: &'a [f64], cs: &'a [usize], k: usize) -> bool
+pub(crate) fn proper_hole(hs: &[f64], cs: &[usize], k: usize) -> bool
     ensures { result ≡ Given.proper_hole hs.now cs.now k }
 {
-    let n = count_at(cs, k);
-    let hole = hole_points(hs, k);
-    entry::proper(32, hole, n)
+    entry::proper(32, hole_points(hs, k), count_at(cs, k))
 }
 
 // Question 21 of the first h holes. A hole that is not there has no vertices.
-pub fn proper_holes<'a>(hs: &'a [f64], cs: &'a [usize], h: usize) -> bool
+pub fn proper_holes(hs: &[f64], cs: &[usize], h: usize) -> bool
     ensures { result ≡ Given.proper_holes hs.now cs.now h }
 {
-    let mut k = 0;
-    while k < h {
-        if !proper_hole(hs, cs, k) {
-            return false;
-        }
-        k += 1;
-    }
-    true
+    (0..h).all(|k| proper_hole(hs, cs, k))
 }
 
 // Question 21 of a region.
-pub fn proper_region<'a>(ps: &'a [f64], n: usize, hs: &'a [f64], cs: &'a [usize], h: usize) -> bool
+pub fn proper_region(ps: &[f64], n: usize, hs: &[f64], cs: &[usize], h: usize) -> bool
     ensures { result ≡ Checks.proper_region (Regions.region_of ps.now n hs.now cs.now h) }
 {
-    if 8 < h {
-        return false;
-    }
-    if !entry::proper(128, ps, n) {
-        return false;
-    }
-    proper_holes(hs, cs, h)
+    h <= 8 && entry::proper(128, ps, n) && proper_holes(hs, cs, h)
 }
 
 // 21 is asked first of a region that is handed in.
-pub fn ask_region<'a>(
-    ps: &'a [f64],
-    n: usize,
-    hs: &'a [f64],
-    cs: &'a [usize],
-    h: usize,
-    r: Refusal,
-) -> Refusal
+pub fn ask_region(ps: &[f64], n: usize, hs: &[f64], cs: &[usize], h: usize, r: Refusal) -> Refusal
     ensures { result ≡ Queries.ask_region (Regions.region_of ps.now n hs.now cs.now h) r }
 {
-    error::choose(proper_region(ps, n, hs, cs, h), r, Refusal::Shape)
+    base::choose(proper_region(ps, n, hs, cs, h), r, Refusal::Shape)
 }

@@ -16,20 +16,20 @@ use region::{Region, RegionOffset};
 
 // What the pieces come to, q being the region that they make: 16 without an outer ring, its own questions, and the last checks against the
 // source.
-pub(crate) fn found_refusal<'a>(
-    ps: &'a [f64],
+pub(crate) fn found_refusal(
+    ps: &[f64],
     n: usize,
-    hs: &'a [f64],
-    cs: &'a [usize],
+    hs: &[f64],
+    cs: &[usize],
     h: usize,
     d: f64,
     tolerance: f64,
     u: Refusal,
     found: bool,
-    qs: &'a [f64],
+    qs: &[f64],
     m: usize,
-    gs: &'a [f64],
-    ds: &'a [usize],
+    gs: &[f64],
+    ds: &[usize],
     g: usize,
 ) -> Refusal
     ensures { result ≡
@@ -47,7 +47,7 @@ pub(crate) fn found_refusal<'a>(
         return checked.region_failure(d);
     }
     let clear = region_clear::stays_clear(d - tolerance, ps, n, hs, cs, h, qs, m, gs, ds, g);
-    error::choose(clear, Refusal::Granted, Refusal::Splits(d))
+    base::choose(clear, Refusal::Granted, Refusal::Splits(d))
 }
 
 // An answer beside which the shape is empty, with the events that were completed before.
@@ -62,40 +62,36 @@ pub(crate) fn inset_refused(
     RegionOffset {
         refusal: u,
         shape: region_given::no_region(),
-        collapses: collapses,
-        divides: divides,
-        joins: joins,
+        collapses,
+        divides,
+        joins,
     }
 }
 
 // What the front that has come to the distance gives, and the events that the sweep completed.
-pub(crate) fn inset_from<'a>(
-    ps: &'a [f64],
+pub(crate) fn inset_from(
+    ps: &[f64],
     n: usize,
-    hs: &'a [f64],
-    cs: &'a [usize],
+    hs: &[f64],
+    cs: &[usize],
     h: usize,
     d: f64,
     s: Sweep,
 ) -> RegionOffset
     ensures { result ≡ Insets.inset_from (region_of ps.now n hs.now cs.now h) d s }
 {
-    let refusal = s.refusal;
-    if !refusal.granted() {
-        return inset_refused(refusal, s.collapses, s.divides, s.joins);
+    if !s.refusal.granted() {
+        return inset_refused(s.refusal, s.collapses, s.divides, s.joins);
     }
     let extent = region_measure::region_extent(ps, n, hs, cs, h);
     let tolerance = offset_run::offset_tolerance(d, extent);
     let origin = ring::vertex_at(ps, 0);
-    let edges = s.edges;
-    let p = region_pieces::region_pieces(edges, origin, d, tolerance);
-    let found = p.found;
-    let asked = p.refusal;
+    let p = region_pieces::region_pieces(s.edges, origin, d, tolerance);
     let q = p.shape;
     let o = q.outer;
     let u = found_refusal(
-        ps, n, hs, cs, h, d, tolerance, asked, found, &o.points, o.count, &q.points, &q.counts,
-        q.holes,
+        ps, n, hs, cs, h, d, tolerance, p.refusal, p.found, &o.points, o.count, &q.points,
+        &q.counts, q.holes,
     );
     if !u.granted() {
         return inset_refused(u, s.collapses, s.divides, s.joins);

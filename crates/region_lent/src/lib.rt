@@ -39,12 +39,9 @@ pub(crate) fn write_from(ps: &[f64], count: usize, base: usize, out: &mut [f64])
     ensures { out.new ≡ rounds (Writes.write_step ps.now base) count out.old }
 {
     let room = base::less(out.len(), base);
-    let mut k = 0usize;
-    while k < count {
-        let at = k;
-        k += 1;
-        if at < room {
-            out[base + at] = ring::number_at(ps, at);
+    for k in 0..count {
+        if k < room {
+            out[base + k] = ring::number_at(ps, k);
         }
     }
 }
@@ -55,10 +52,8 @@ pub(crate) fn vertices(n: usize, cs: &[usize], h: usize) -> usize
     ensures { result ≡ Rings.before_of n cs.now (h + 1) }
 {
     let mut s = 0usize;
-    let mut k = 0usize;
-    while k < h + 1 {
+    for k in 0..h + 1 {
         s += ring_count(n, cs, k);
-        k += 1;
     }
     s
 }
@@ -69,35 +64,24 @@ pub(crate) fn ring_counts(n: usize, cs: &[usize], h: usize) -> [usize; 9]
     ensures { result ≡ Rings.counts_of n cs.now h }
 {
     let mut counts = [0; 9];
-    let mut k = 0usize;
-    while k < h + 1 {
+    for k in 0..h + 1 {
         counts[k] = ring_count(n, cs, k);
-        k += 1;
     }
     counts
 }
 
 // Each ring after the one before.
-pub(crate) fn write_rings<'a>(
-    ps: &'a [f64],
-    n: usize,
-    hs: &'a [f64],
-    cs: &'a [usize],
-    h: usize,
-    out: &mut [f64],
-)
+pub(crate) fn write_rings(ps: &[f64], n: usize, hs: &[f64], cs: &[usize], h: usize, out: &mut [f64])
     requires { Rings.Few n cs.now h }
     ensures { out.new ≡ Queries.write_rings (Regions.region_of ps.now n hs.now cs.now h)
         out.old }
 {
     let mut base = 0usize;
-    let mut k = 0usize;
-    while k < h + 1 {
+    for k in 0..h + 1 {
         let count = 2 * ring_count(n, cs, k);
         let ring = ring_points(ps, hs, k);
         write_from(ring, count, base, out);
         base += count;
-        k += 1;
     }
 }
 
@@ -113,33 +97,25 @@ pub fn no_rings(r: Refusal) -> RegionWritten
 }
 
 // What a write of a region tells, where there is nothing to write to: 21.
-pub fn tell_region<'a>(
-    ps: &'a [f64],
-    n: usize,
-    hs: &'a [f64],
-    cs: &'a [usize],
-    h: usize,
-) -> RegionWritten
+pub fn tell_region(ps: &[f64], n: usize, hs: &[f64], cs: &[usize], h: usize) -> RegionWritten
     ensures { result ≡ Rings.region_told (Regions.region_of ps.now n hs.now cs.now h) }
 {
     if !region_given::proper_region(ps, n, hs, cs, h) {
         return no_rings(Refusal::Shape);
     }
-    let counts = ring_counts(n, cs, h);
-    let rings = h + 1;
     RegionWritten {
         refusal: Refusal::Granted,
-        rings: rings,
-        counts: counts,
+        rings: h + 1,
+        counts: ring_counts(n, cs, h),
     }
 }
 
 // A region to lent output: 21, then 20. A refused write changes nothing, and a granted one only the numbers that it writes.
-pub fn write_region<'a>(
-    ps: &'a [f64],
+pub fn write_region(
+    ps: &[f64],
     n: usize,
-    hs: &'a [f64],
-    cs: &'a [usize],
+    hs: &[f64],
+    cs: &[usize],
     h: usize,
     out: &mut [f64],
 ) -> RegionWritten

@@ -59,9 +59,12 @@ module _ (lengths : List ℕ) (ps : List Float) (o : Outline) where
           (stays_to (hole_load_step lengths ps) (outer_alone o (get_or lengths 0 0)) (loaded c.refusal no_outline (replicate 512 zero_float) (replicate 8 0) 0 start) (k + 1) (length lengths - 1)
           (omega arith) (step ∙ rw g refl) (λ (j : ℕ). rw g refl)))
 
-    pub all_loaded : k ≤ length lengths - 1 → length lengths - 1 ≤ k → loaded Granted o points counts k start ≡ load_holes lengths ps o
+    pub all_loaded : (last : ℕ) → last ≡ length lengths - 1 → k ≤ last → last ≤ k → loaded Granted o points counts last start ≡ load_holes lengths ps o
     unfolding load_holes
-    all_loaded l h = ends (hole_load_step lengths ps) (outer_alone o (get_or lengths 0 0)) (loaded Granted o points counts k start) k (length lengths - 1) l h (sym so_far)
+    all_loaded last e l h =
+        let at : last ≡ k = omega arith in
+        ap (λ (m : ℕ). loaded Granted o points counts m start) at ∙
+        ends (hole_load_step lengths ps) (outer_alone o (get_or lengths 0 0)) (loaded Granted o points counts k start) k (length lengths - 1) (omega arith) (omega arith) (sym so_far)
 
 -- ---- the outer ring
 not_taken : (b : Bool) (x y : NewOutline) → granted x.refusal ≡ true → granted (cond b x y).refusal ≡ false → b ≡ false

@@ -47,9 +47,11 @@ module _ (o : Outline) (hs : List Float) (cs : List ℕ) where
         rw (so_far, hole_is hs cs k l, e, f, en, eh)
         (sym (hole_more (ltb k 8) o (stored (drop (64 * k) hs) (get_or cs k 0) false (32 * k) points) points (set counts k (get_or cs k 0)) counts (k + 1)))
 
-    pub all_given : k ≤ length cs → length cs ≤ k → region_at o points counts k ≡ given_rings o (outlines hs cs)
+    pub all_given : k ≤ length cs → length cs ≤ k → region_at o points counts (length cs) ≡ given_rings o (outlines hs cs)
     unfolding given_rings
-    all_given l h = sym so_far ∙ ap giving (omega (arith, as_many hs cs, l, h))
+    all_given l h =
+        let at : length cs ≡ k = omega arith in
+        ap (region_at o points counts) at ∙ sym so_far ∙ ap giving (omega (arith, as_many hs cs, l, h))
 
   proper_is : proper_given o (outlines hs cs) ≡ (proper 128 o.points o.count && proper_holes hs cs (length cs))
   unfolding proper_given proper_holes proper_hole proper_hole_step proper_given_step given_hole

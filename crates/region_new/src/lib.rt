@@ -46,16 +46,14 @@ pub(crate) fn checked_region(r: Region) -> NewRegion
 pub fn region_loaded(s: RegionLoad) -> NewRegion
     ensures { result ≡ Checks.region_loaded s }
 {
-    let refusal = s.refusal;
-    if refusal.granted() {
-        let shape = s.shape;
-        checked_region(shape)
+    if s.refusal.granted() {
+        checked_region(s.shape)
     } else {
-        region_refused(refusal)
+        region_refused(s.refusal)
     }
 }
 
-pub(crate) fn region_finite<'a>(lengths: &'a [usize], ps: &'a [f64], r: Refusal) -> NewRegion
+pub(crate) fn region_finite(lengths: &[usize], ps: &[f64], r: Refusal) -> NewRegion
     ensures { result ≡ Checks.region_finite lengths.now ps.now r }
 {
     if r.granted() {
@@ -66,7 +64,7 @@ pub(crate) fn region_finite<'a>(lengths: &'a [usize], ps: &'a [f64], r: Refusal)
 }
 
 // The region of these numbers, ring after ring: questions 1 to 12 and 27.
-pub fn new<'a>(lengths: &'a [usize], ps: &'a [f64]) -> NewRegion
+pub fn new(lengths: &[usize], ps: &[f64]) -> NewRegion
     ensures is { result ≡ Checks.region lengths.now ps.now }
     ensures again { Answers.ProperNewRegion result }
 {
@@ -98,31 +96,25 @@ pub fn without_holes(o: Outline) -> NewRegion
 }
 
 // The rings as they are handed in. A hole past the eighth is counted and not stored.
-pub(crate) fn given_rings<'a>(outer: Outline, hs: &'a [f64], cs: &'a [usize]) -> Region
+pub(crate) fn given_rings(outer: Outline, hs: &[f64], cs: &[usize]) -> Region
     ensures { result ≡ Checks.given_rings outer (Holes.outlines hs.now cs.now) }
 {
     let mut points = [0.0; 512];
     let mut counts = [0; 8];
-    let mut k = 0;
-    while k < cs.len() {
-        let n = region_given::count_at(cs, k);
+    for (k, n) in cs.iter().enumerate() {
         let hole = region_given::hole_points(hs, k);
-        let stored = region_load::store_hole(hole, n, false, k, points);
-        points = stored;
-        let counted = region_load::store_count(counts, k, n);
-        counts = counted;
-        k += 1;
+        region_given::put_hole(hole, *n, false, k, &mut points, &mut counts);
     }
     Region {
-        outer: outer,
-        points: points,
-        counts: counts,
-        holes: k,
+        outer,
+        points,
+        counts,
+        holes: cs.len(),
     }
 }
 
 // The region of these outlines: 21 of each, then 10 to 12.
-pub fn region_given<'a>(outer: Outline, hs: &'a [f64], cs: &'a [usize]) -> NewRegion
+pub fn region_given(outer: Outline, hs: &[f64], cs: &[usize]) -> NewRegion
     ensures is { result ≡ Checks.region_given outer (Holes.outlines hs.now cs.now) }
     ensures again { Answers.ProperNewRegion result }
 {

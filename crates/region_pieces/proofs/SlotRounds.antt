@@ -63,9 +63,6 @@ refused_as r q e = ap (λ (x : Region). record { refusal = r; found = false; sha
 pub below_eight : (held : ℕ) → held < 8 → held ≤ 7
 below_eight held l = omega arith
 
-pub hole_base : (held : ℕ) → held < 8 → 32 * held ≤ 256
-hole_base held l = omega arith
-
 -- a place that is granted to a hole is one of eight
 pub hole_placed : (d : Float) (outer found : Bool) (held : ℕ) (r : Refusal) (g : Bool) → r ≡ place_refusal d outer found held → g ≡ granted r → not g ≡ false → outer ≡ false → held < 8
 unfolding place_refusal granted number values
@@ -179,10 +176,10 @@ module _ (f : List Edge) (origin : PlanarPoint) (d tolerance : Float) (k place :
           go false z = refl
 
       -- it is a hole
-      pub keeps_hole : (gs : List Float) → held < 8 → lt zero_float area ≡ false → gs ≡ stored w.points n back (32 * held) hs →
-          rounds (piece_step f origin d tolerance) (k + 1) no_visits ≡ visits_at (pieces_at Granted found (region_at o gs (set cs held n) (held + 1))) (place + 1) w.seen
-      keeps_hole gs m t e =
-          visits_whole ∙ rw (sym side ∙ t, lt-ltb held 8 m) (ap (λ (z : List Float). visits_at (pieces_at Granted found (region_at o z (set cs held n) (held + 1))) (place + 1) w.seen) (sym e))
+      pub keeps_hole : (gs : List Float) (ds : List ℕ) → held < 8 → lt zero_float area ≡ false
+          → gs ≡ cond (ltb held 8) (stored w.points n back (32 * held) hs) hs → ds ≡ cond (ltb held 8) (set cs held n) cs →
+          rounds (piece_step f origin d tolerance) (k + 1) no_visits ≡ visits_at (pieces_at Granted found (region_at o gs ds (held + 1))) (place + 1) w.seen
+      keeps_hole gs ds m t e h = visits_whole ∙ rw (sym side ∙ t, e, h, lt-ltb held 8 m) refl
 
 -- every slot is passed
 pub all_passed : (f : List Edge) (origin : PlanarPoint) (d tolerance : Float) (k place : ℕ) (made : RegionPieces) (seen : List Bool) → k ≤ 128 → 128 ≤ k →

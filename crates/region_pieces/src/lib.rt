@@ -25,9 +25,9 @@ pub(crate) fn region_pieces_refused(r: Refusal) -> RegionPieces
 pub(crate) fn place_refusal(d: f64, outer: bool, found: bool, held: usize) -> Refusal
     ensures { result ≡ Rooms.place_refusal d outer found held }
 {
-    let split = error::choose(found, Refusal::Splits(d), Refusal::Granted);
-    let full = error::choose(held < 8, Refusal::Granted, Refusal::ManyPieces(9));
-    error::choose(outer, split, full)
+    let split = base::choose(found, Refusal::Splits(d), Refusal::Granted);
+    let full = base::choose(held < 8, Refusal::Granted, Refusal::ManyPieces(9));
+    base::choose(outer, split, full)
 }
 
 // A ring starts at the first live slot that no ring before it has passed. One whose area is above 0 is the outer one, any other is a hole;
@@ -47,10 +47,7 @@ pub fn region_pieces(
     let mut held = 0;
     let mut place = 0;
     let mut seen = [false; 128];
-    let mut first = 0;
-    while first < 128 {
-        let slot = first;
-        first += 1;
+    for slot in 0..128 {
         let e = edges[slot];
         if e.alive & !seen[slot] {
             let w = front_walk::walk(edges, d, origin, slot, seen);
@@ -70,12 +67,10 @@ pub fn region_pieces(
                         return region_pieces_refused(r);
                     }
                     if outer {
-                        let stored = outline::store::stored_outline(&w.points, n, back);
-                        ring = stored;
+                        ring = outline::store::stored_outline(&w.points, n, back);
                         found = true;
                     } else {
-                        region_given::file_ring(&w.points, n, back, 32 * held, &mut points);
-                        counts[held] = n;
+                        region_given::put_hole(&w.points, n, back, held, &mut points, &mut counts);
                         held += 1;
                     }
                 }
@@ -84,11 +79,11 @@ pub fn region_pieces(
     }
     RegionPieces {
         refusal: Refusal::Granted,
-        found: found,
+        found,
         shape: Region {
             outer: ring,
-            points: points,
-            counts: counts,
+            points,
+            counts,
             holes: held,
         },
     }

@@ -1,9 +1,11 @@
 -- Ring after ring: question 21 of one hole more, and one hole more as it is. Assumes nothing.
 use Prim.Native.Nat.{ℕ, ◌+◌, ◌-◌, ◌*◌, ◌≤◌, ◌<◌}
 use mathlib.Core.Path.{◌≡◌, refl, sym, ap, ◌∙◌}
-use mathlib.Core.Bool.{Bool, true, false, not}
+use native.Mathlib.Omega.{arith}
+use mathlib.Core.Bool.{Bool, true, false, cond, not}
 use mathlib.Core.List.{List}
 use borrow.Author.Tests.{not-true, not-false, lt-ltb, le-ltb}
+use lib.Dec.{ltb}
 use lib.ListN.{length, get_or, set, drop, replicate}
 use lib.Ieee.{Float}
 use Rattle.math.specs.Number.{zero_float}
@@ -19,12 +21,8 @@ use Rattle.outline.specs.Outlines.{proper, stored_outline}
 use Rattle.region.specs.declared.Region.{Region}
 use Rattle.region.specs.Regions.{no_region, with_outer, store_hole, count_hole, with_hole}
 use Rattle.region_load.proofs.Sums.{sum_of}
+use Rattle.region_load.proofs.Stores.{hole_more}
 use Rattle.region_stored.specs.Stored.{ring_from, proper_holes_step, proper_holes, rings_step, rings}
-
--- a ring that is not reversed has the vertices that were given
-pub as_it_is : (ps : List Float) (n k : ℕ) (v : PlanarPoint) → v ≡ vertex_at ps k → v ≡ stored_at ps n false k
-unfolding stored_at source
-as_it_is ps n k v e = e
 
 -- what is stored so far
 abbrev pub region_at : Outline → List Float → List ℕ → ℕ → Region
@@ -66,26 +64,23 @@ module _ (lengths : List ℕ) (ps : List Float) where
       hole_fails l h = sym (test_fails (proper_holes_step lengths ps) passes (λ (j : ℕ) (s : Bool). refl) (length lengths - 1) k all l (sym (told r e) ∙ not-true r h))
 
     module _ (o : Outline) (points : List Float) (counts : List ℕ) (so_far : keeping k ≡ region_at o points counts k) where
-      -- one of the first eight
-      pub hole_kept : k < 8 → length points ≡ 512 → (base : ℕ) → base ≡ 32 * k → (p : List Float) → p ≡ stored part n false base points → keeping (k + 1) ≡ region_at o p (set counts k n) (k + 1)
-      unfolding rings_step with_hole store_hole
-      hole_kept l size base eb p e =
+      pub hole_kept : (p : List Float) (d : List ℕ) → p ≡ cond (ltb k 8) (stored part n false (32 * k) points) points → d ≡ cond (ltb k 8) (set counts k n) counts
+          → keeping (k + 1) ≡ region_at o p d (k + 1)
+      unfolding rings_step with_hole store_hole count_hole
+      hole_kept p d e f =
           next_round (rings_step lengths ps) k (with_outer no_region outer) ∙
-          rw (so_far, lt-ltb k 8 l, e, eb, ← part_is, ← en) refl
-
-      pub size_kept : k < 8 → length points ≡ 512 → (base : ℕ) → base ≡ 32 * k → (p : List Float) → p ≡ stored part n false base points → length p ≡ 512
-      size_kept l size base eb p e = ap length e ∙ stored_length part n false base points ∙ size
-
-      -- one past them
-      pub hole_counted : 8 ≤ k → keeping (k + 1) ≡ region_at o points counts (k + 1)
-      unfolding rings_step with_hole count_hole
-      hole_counted l = next_round (rings_step lengths ps) k (with_outer no_region outer) ∙ rw (so_far, le-ltb k 8 l) refl
+          rw (so_far, e, f, ← part_is, ← en)
+          (sym (hole_more (ltb k 8) o (stored part n false (32 * k) points) points (set counts k n) counts (k + 1)))
 
   module _ (k : ℕ) (l : k ≤ length lengths - 1) (h : length lengths - 1 ≤ k) where
     pub holes_pass : passing k ≡ true → true ≡ proper_holes lengths ps
     unfolding proper_holes_step proper_holes
     holes_pass all = sym (tests_end (proper_holes_step lengths ps) passes (λ (j : ℕ) (s : Bool). refl) (length lengths - 1) k all l h)
 
-    pub all_kept : (r : Region) → keeping k ≡ r → r ≡ rings lengths ps
-    unfolding rings
-    all_kept r e = ends (rings_step lengths ps) (with_outer no_region outer) r k (length lengths - 1) l h (sym e)
+  pub all_kept : (o : Outline) (points : List Float) (counts : List ℕ) (k : ℕ) → keeping k ≡ region_at o points counts k → (last : ℕ) → last ≡ length lengths - 1 → k ≤ last → last ≤ k
+      → region_at o points counts last ≡ rings lengths ps
+  unfolding rings
+  all_kept o points counts k e last q l h =
+      let at : last ≡ k = omega arith in
+      ap (region_at o points counts) at ∙
+      ends (rings_step lengths ps) (with_outer no_region outer) (region_at o points counts k) k (length lengths - 1) (omega arith) (omega arith) (sym e)

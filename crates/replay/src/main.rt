@@ -4,25 +4,25 @@
 // how many fields of answer follow, the answer, the question.
 #![tactic(auto)]
 
+mod answer;
 mod holed;
+mod kind;
 mod kinds;
 mod line;
 mod offsets;
-mod parts;
+mod question;
 mod shapes;
 mod tally;
 mod turns;
 
-// Compares the lines of standard input, which `text` has room for, and prints the counts.
-fn compare(text: &mut [u8; 4194304]) {
-    let mut fields = [0u64; line::ROOM];
-    let mut numbers = [0.0; line::ROOM];
+// The lines of standard input, which `text` has room for, compared and counted.
+fn compared(text: &mut [u8; 4194304]) -> tally::Tally {
     let n = io::read_full(0, text);
-    let counts = line::take_lines(&text[..n], &mut fields, &mut numbers);
-    counts.print();
+    line::tally_of(&text[..n])
 }
 
-fn main() {
+fn main(rt: HostRuntime) {
     let mut text = [0u8; 4194304];
-    compare(&mut text);
+    let tally = compared(&mut text);
+    let _ = print!(rt; "{tally}");
 }

@@ -1,24 +1,16 @@
--- A ring's vertices and numbers: past the end, one after the other, two by two. Assumes nothing.
-use mathlib.Core.Path.{◌≡◌, refl, ◌∙◌, ap, subst}
+-- A ring's vertices and numbers: one after the other, two by two. Assumes nothing.
+use mathlib.Core.Path.{◌≡◌, refl, ap, subst}
 use mathlib.Core.Bool.{Bool, true, false, cond}
 use mathlib.Core.List.{List}
 use Prim.Native.Nat.{ℕ, ◌+◌, ◌-◌, ◌*◌, ◌/◌, ◌%◌, ◌≤◌, ◌<◌}
 use native.Mathlib.Omega.{arith}
 use borrow.Author.Tests.{ltb-true, lt-ltb, le-ltb}
 use lib.Dec.{ltb}
-use lib.ListN.{length, get_or}
+use lib.ListN.{get_or}
 use lib.Ieee.{Float, nan}
-use Rattle.base.proofs.Lists.{past_end}
 use Rattle.base.proofs.Choices.{by_cases}
 use Rattle.plane.specs.declared.PlanarPoint.{PlanarPoint}
 use Rattle.ring.specs.Ring.{vertex_at, following, edge_end}
-
-pub past_vertex : (ps : List Float) (k : ℕ) (x y : Float) → length ps ≤ k → x ≡ nan → y ≡ nan → record { east = x; north = y } ≡ vertex_at ps k
-unfolding vertex_at
-past_vertex ps k x y l e h =
-    let a : x ≡ get_or ps (2 * k) nan = e ∙ past_end ps nan (2 * k) (omega arith) in
-    let b : y ≡ get_or ps (2 * k + 1) nan = h ∙ past_end ps nan (2 * k + 1) (omega arith) in
-    cc
 
 pub following_on : (n k : ℕ) → k < n - 1 → k + 1 ≡ following n k
 unfolding following

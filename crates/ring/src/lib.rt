@@ -7,6 +7,7 @@ ghost use Rattle.ring.specs.Ring;
 
 use plane::PlanarPoint;
 
+#[tactic(auto, using(base::proofs::Lists::past_end))]
 pub fn number_at(ps: &[f64], i: usize) -> f64
     ensures { result ≡ get_or ps.now i nan }
 {
@@ -14,6 +15,7 @@ pub fn number_at(ps: &[f64], i: usize) -> f64
 }
 
 // One test where both numbers are there.
+#[tactic(auto, using(base::proofs::Lists::past_end), unfolding(crate::specs::Ring::vertex_at))]
 pub fn vertex_at(ps: &[f64], k: usize) -> PlanarPoint
     ensures { result ≡ Ring.vertex_at ps.now k }
 {
@@ -37,12 +39,14 @@ pub fn vertex_at(ps: &[f64], k: usize) -> PlanarPoint
 }
 
 // The vertex after vertex k of n: the last is followed by the first.
+#[tactic(auto, unfolding(crate::specs::Ring::following))]
 pub fn following(n: usize, k: usize) -> usize
     ensures { result ≡ Ring.following n k }
 {
-    if k < base::less(n, 1) { k + 1 } else { 0 }
+    if k < n.saturating_sub(1) { k + 1 } else { 0 }
 }
 
+#[tactic(auto, unfolding(crate::specs::Ring::edge_end))]
 pub fn edge_end(ps: &[f64], n: usize, k: usize) -> PlanarPoint
     ensures { result ≡ Ring.edge_end ps.now n k }
 {
@@ -50,12 +54,14 @@ pub fn edge_end(ps: &[f64], n: usize, k: usize) -> PlanarPoint
 }
 
 // Vertex k of the stored ring is this vertex of the given one.
+#[tactic(auto, unfolding(crate::specs::Ring::source))]
 pub(crate) fn source(n: usize, back: bool, k: usize) -> usize
     ensures { result ≡ Ring.source n back k }
 {
-    base::choose(back & (0 < k), base::less(n, k), k)
+    base::choose(back & (0 < k), n.saturating_sub(k), k)
 }
 
+#[tactic(auto, unfolding(crate::specs::Ring::stored_at))]
 pub fn stored_at(ps: &[f64], n: usize, back: bool, k: usize) -> PlanarPoint
     ensures { result ≡ Ring.stored_at ps.now n back k }
 {

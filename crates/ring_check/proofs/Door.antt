@@ -10,8 +10,8 @@ use Rattle.error.specs.declared.Refusal.TheVariants.{Granted, Few, Repeated, Hai
 use Rattle.error.specs.Refusals.{values, number, granted}
 use Rattle.math.specs.Number.{zero_float}
 use Rattle.ring_measure.specs.Measures.{signed_area, span}
-use Rattle.ring_cross.specs.declared.Crossing.{Crossing}
-use Rattle.ring_cross.specs.declared.Crossing.TheVariants.{Simple, Edges}
+use Rattle.std.specs.Prelude.{Option, None, Some}
+use Rattle.ring_cross.specs.declared.EdgePair.{EdgePair}
 use Rattle.ring_cross.specs.Simple.{check_simple}
 use Rattle.base.proofs.Laws.{rounds_keep}
 use Rattle.base.proofs.Choices.{both}
@@ -56,11 +56,11 @@ range_early room ring ps n =
 record Late (c : Checked) : Type 0 where
   late : past_seven c.refusal ≡ true
 
-crossed_late : (ring n : ℕ) (back : Bool) (x : Crossing) → past_seven (crossed ring n back x) ≡ true
+crossed_late : (ring n : ℕ) (back : Bool) (x : Option EdgePair) → past_seven (crossed ring n back x) ≡ true
 unfolding crossed past_seven granted number values
-crossed_late ring n back Simple = refl
-crossed_late ring n true (Edges i j) = refl
-crossed_late ring n false (Edges i j) = refl
+crossed_late ring n back None = refl
+crossed_late ring n true (Some p) = refl
+crossed_late ring n false (Some p) = refl
 
 area_late : (ring : ℕ) (ps : List Float) (n : ℕ) (signed : Float) → Late (check_area ring ps n signed)
 unfolding check_area check_reversed passed refused past_seven granted number values

@@ -4,12 +4,11 @@ use native.Mathlib.Omega.{arith}
 use mathlib.Core.Path.{◌≡◌, refl, sym, ap, ◌∙◌}
 use mathlib.Core.Bool.{Bool, true, false, cond, not, ◌&&◌, ◌||◌, true≢false, false≢true}
 use mathlib.Core.List.{List}
-use borrow.Author.Tests.{not-true, not-false}
+use borrow.Author.Count.{below_more}
+use borrow.Author.Tests.{not-false}
 use lib.Dec.{ltb}
-use lib.Ieee.{Float, lt, le, neg}
+use lib.Ieee.{Float, le, neg}
 use Rattle.plane.specs.declared.PlanarPoint.{PlanarPoint}
-use Rattle.plane.specs.Plane.{same, sub}
-use Rattle.plane.specs.Points.{length_of}
 use Rattle.error.specs.declared.Refusal.{Refusal}
 use Rattle.error.specs.declared.Refusal.TheVariants.{Granted, Range, Room}
 use Rattle.error.specs.Refusals.{values, number, granted}
@@ -17,9 +16,10 @@ use Rattle.ring.specs.Ring.{vertex_at, edge_end}
 use Rattle.ring.proofs.Vertices.{following_on}
 use Rattle.base.specs.Loop.{rounds}
 use Rattle.base.proofs.Laws.{next_round, stays_to}
-use Rattle.base.proofs.Tests.{none_yet, found_at, tests_on, test_fails}
-use Rattle.ring_check.specs.Checks.{max_coordinate, hairline_length, beyond, vertex_refusal, range_step, check_range, repeat_step, repeats, short_edge, hairline_step, hairline}
-use Rattle.ring_check.specs.Walks.{passes, wide, wide_step, all_wide}
+use Rattle.base.proofs.Tests.{found_at, none_all, all_pass, pass_all}
+use Rattle.std.specs.Bool.{MatchBool}
+use Rattle.ring_check.specs.Checks.{max_coordinate, beyond, vertex_refusal, range_step, check_range}
+use Rattle.ring_check.specs.Walks.{Passing, NoneYet, NonePasses, passes}
 use Rattle.ring_check.proofs.Reach.{in_reach_is}
 
 -- ---- a number beyond the range
@@ -57,58 +57,55 @@ module _ (room ring n : ℕ) (ps : List Float) where
     unfolding range_step granted number values
     step = next_round (range_step room ring ps n) k Granted ∙ ap (range_step room ring ps n k) so_far ∙ ap (vertex_refusal room ring n k) (sym e)
 
-    pub range_goes_on : (b : Bool) → b ≡ passes room k v → not b ≡ false → rounds (range_step room ring ps n) (k + 1) Granted ≡ Granted
+    pub range_goes_on : (b : Bool) → b ≡ passes room k v → b ≡ true → rounds (range_step room ring ps n) (k + 1) Granted ≡ Granted
     unfolding passes vertex_refusal
-    range_goes_on b p t = step ∙ sorted (beyond v.east) (beyond v.north) (ltb k room) (Range ring v.east) (Range ring v.north) (Room ring n room) (sym p ∙ not-false b t)
+    range_goes_on b p t = step ∙ sorted (beyond v.east) (beyond v.north) (ltb k room) (Range ring v.east) (Range ring v.north) (Room ring n room) (sym p ∙ t)
 
     not_granted : passes room k v ≡ false → granted (vertex_refusal room ring n k v) ≡ false
     unfolding passes vertex_refusal
     not_granted h = refused (beyond v.east) (beyond v.north) (ltb k room) ring n room v.east v.north h
 
-    pub range_refused : (b : Bool) (r : Refusal) → k < n → b ≡ passes room k v → not b ≡ true → r ≡ vertex_refusal room ring n k v → r ≡ check_range room ring ps n
+    pub range_refused : (b : Bool) (r : Refusal) → k < n → b ≡ passes room k v → b ≡ false → r ≡ vertex_refusal room ring n k v → r ≡ check_range room ring ps n
     unfolding check_range range_step
     range_refused b r l p t q =
-        let g : granted (vertex_refusal room ring n k v) ≡ false = not_granted (sym p ∙ not-true b t) in
+        let g : granted (vertex_refusal room ring n k v) ≡ false = not_granted (sym p ∙ t) in
         q ∙ sym (stays_to (range_step room ring ps n) Granted (vertex_refusal room ring n k v) (k + 1) n (omega arith) step (λ m. rw g refl))
 
--- ---- an edge's test, which a walk over the edges asks
+-- ---- what a walk over the edges tells by a test, whose answer is told to be `test`
 
-module _ (ps : List Float) (n k : ℕ) (v w : PlanarPoint) (e : v ≡ vertex_at ps k) (f : w ≡ edge_end ps n k) where
-  asked : (test : PlanarPoint → PlanarPoint → Bool) {b c : Bool} → b ≡ test v w → b ≡ c → test (vertex_at ps k) (edge_end ps n k) ≡ c
-  asked test g t = ap (test (vertex_at ps k)) (sym f) ∙ ap (λ (z : PlanarPoint). test z w) (sym e) ∙ sym g ∙ t
+module _ (ps : List Float) (n : ℕ) (post : PlanarPoint → PlanarPoint → Bool → Type 0) where
+  abbrev edge_by : (PlanarPoint → PlanarPoint → Bool) → ℕ → Bool
+  edge_by test k = test (vertex_at ps k) (edge_end ps n k)
 
-  abbrev thin : PlanarPoint → PlanarPoint → Bool
-  thin a b = lt (length_of (sub b a)) hairline_length
+  -- that one passes, or none does
+  pub any_told :
+      (f : ℕ → Bool → Bool) (test : PlanarPoint → PlanarPoint → Bool) → ((k : ℕ) (s : Bool) → f k s ≡ (s || edge_by test k)) →
+      ((a b : PlanarPoint) (t : Bool) → post a b t → t ≡ test a b) → (r : Bool) → MatchBool r (Passing post ps n) (NonePasses post ps n) → r ≡ rounds f n false
+  any_told f test body is true w = sym (found_at f (edge_by test) body n w.at w.under (sym (is _ _ _ w.is)))
+  any_told f test body is false w = sym (none_all f (edge_by test) body n (λ k l. sym (is _ _ _ (w k l))))
 
-  module _ (b : Bool) where
-    -- neighbours that are equal
-    pub repeats_not : b ≡ same v w → rounds (repeat_step ps n) k false ≡ false → b ≡ false → rounds (repeat_step ps n) (k + 1) false ≡ false
-    unfolding repeat_step
-    repeats_not g none t = none_yet (repeat_step ps n) (λ j. same (vertex_at ps j) (edge_end ps n j)) (λ j s. refl) k none (asked same g t)
+  -- that one fails, or none does
+  pub all_told :
+      (f : ℕ → Bool → Bool) (test : PlanarPoint → PlanarPoint → Bool) → ((k : ℕ) (s : Bool) → f k s ≡ (s && edge_by test k)) →
+      ((a b : PlanarPoint) (t : Bool) → post a b t → t ≡ not (test a b)) → (r : Bool) → MatchBool r (Passing post ps n) (NonePasses post ps n) → not r ≡ rounds f n true
+  all_told f test body is true w = go (rounds f n true) refl
+    where
+      go : (t : Bool) → rounds f n true ≡ t → false ≡ t
+      go false e = refl
+      go true e =
+          let passes : test (vertex_at ps w.at) (edge_end ps n w.at) ≡ true = all_pass f (edge_by test) body n e w.at w.under in
+          absurd (true≢false (is _ _ _ w.is ∙ ap not passes))
+  all_told f test body is false w = sym (pass_all f (edge_by test) body n (λ k l. not-false _ (sym (is _ _ _ (w k l)))))
 
-    pub repeats_here : b ≡ same v w → k < n → b ≡ true → true ≡ repeats ps n
-    unfolding repeats repeat_step
-    repeats_here g l t = sym (found_at (repeat_step ps n) (λ j. same (vertex_at ps j) (edge_end ps n j)) (λ j s. refl) n k l (asked same g t))
+-- one more that does not pass
+pub one_more :
+    (post : PlanarPoint → PlanarPoint → Bool → Type 0) (ps : List Float) (n k : ℕ) {a b : PlanarPoint} → NoneYet post ps n k → a ≡ vertex_at ps k → b ≡ edge_end ps n k →
+    post a b false → NoneYet post ps n (k + 1)
+one_more post ps n k w e f h = below_more (λ (j : ℕ). post (vertex_at ps j) (edge_end ps n j) false) k w (rw (← e, ← f) h)
 
-    -- hairlines
-    pub hairline_not : b ≡ thin v w → rounds (hairline_step ps n) k false ≡ false → b ≡ false → rounds (hairline_step ps n) (k + 1) false ≡ false
-    unfolding hairline_step short_edge
-    hairline_not g none t = none_yet (hairline_step ps n) (short_edge ps n) (λ j s. refl) k none (asked thin g t)
-
-    pub hairline_here : b ≡ thin v w → k < n → b ≡ true → true ≡ hairline ps n
-    unfolding hairline hairline_step short_edge
-    hairline_here g l t = sym (found_at (hairline_step ps n) (short_edge ps n) (λ j s. refl) n k l (asked thin g t))
-
-    -- edges that are all wide
-    pub wide_on : b ≡ wide v w → rounds (wide_step ps n) k true ≡ true → not b ≡ false → rounds (wide_step ps n) (k + 1) true ≡ true
-    unfolding wide_step
-    wide_on g all t =
-        tests_on (wide_step ps n) (λ j. wide (vertex_at ps j) (edge_end ps n j)) (λ j s. refl) n k all (asked wide g (not-false b t))
-
-    pub wide_fails : b ≡ wide v w → rounds (wide_step ps n) k true ≡ true → k < n → not b ≡ true → false ≡ all_wide ps n
-    unfolding all_wide wide_step
-    wide_fails g all l t =
-        sym (test_fails (wide_step ps n) (λ j. wide (vertex_at ps j) (edge_end ps n j)) (λ j s. refl) n k all l (asked wide g (not-true b t)))
+pub one_passes : (post : PlanarPoint → PlanarPoint → Bool → Type 0) (ps : List Float) (n k : ℕ) {a b : PlanarPoint} → k < n → a ≡ vertex_at ps k → b ≡ edge_end ps n k →
+    post a b true → Passing post ps n
+one_passes post ps n k l e f h = record { at = k; under = l; is = rw (← e, ← f) h }
 
 -- the next edge starts where edge k ends
 pub starts : (ps : List Float) (n k : ℕ) (w : PlanarPoint) → w ≡ edge_end ps n k → k + 1 < n → w ≡ vertex_at ps (k + 1)

@@ -82,7 +82,7 @@ past_is (inf false) = refl
 past_is (fin s m e) = past s 4722366482869645 (negsuc 71) m e (omega arith)
 
 -- as the code asks it: a second time only where the first does not tell
-pub first_tells : (b c : Bool) → b ≡ true → true ≡ (b || c)
+pub first_tells : (b c : Bool) → b ≡ true → b ≡ (b || c)
 first_tells b c e = rw e refl
 
 pub second_tells : (r b c : Bool) → b ≡ false → r ≡ c → r ≡ (b || c)

@@ -11,8 +11,8 @@ use Rattle.plane.specs.declared.PlanarPoint.{PlanarPoint}
 use Rattle.error.specs.declared.Refusal.{Refusal}
 use Rattle.error.specs.declared.Refusal.TheVariants.{Granted, Few, Repeated, Flat, Hairline}
 use Rattle.ring_check.specs.declared.Checked.{Checked}
-use Rattle.ring_cross.specs.declared.Crossing.{Crossing}
-use Rattle.ring_cross.specs.declared.Crossing.TheVariants.{Simple, Edges}
+use Rattle.std.specs.Prelude.{Option, None, Some}
+use Rattle.ring_cross.specs.declared.EdgePair.{EdgePair}
 use Rattle.error.specs.Refusals.{number, values, granted}
 use Rattle.math.specs.Number.{zero_float}
 use Rattle.plane.specs.Plane.{same}
@@ -66,7 +66,7 @@ pub record Passed (room : ℕ) (ps : List Float) (n m : ℕ) (back : Bool) : Typ
   pub kept : m ≤ n
   pub fits : m ≤ room
   pub within : (k : ℕ) → k < m → Within (vertex_at ps k)
-  pub simple : check_simple ps m back ≡ Simple
+  pub simple : check_simple ps m back ≡ None
 
 record Sound (room : ℕ) (ps : List Float) (n : ℕ) (c : Checked) : Type 0 where
   sound : granted c.refusal ≡ true → Passed room ps n c.count c.back
@@ -75,11 +75,11 @@ refused_sound : (room : ℕ) (ps : List Float) (n : ℕ) (r : Refusal) → grant
 unfolding refused
 refused_sound room ps n r h = record { sound = λ q. absurd (false≢true (sym h ∙ q)) }
 
-crossed_simple : (ring n : ℕ) (back : Bool) (c : Crossing) → granted (crossed ring n back c) ≡ true → c ≡ Simple
+crossed_simple : (ring n : ℕ) (back : Bool) (c : Option EdgePair) → granted (crossed ring n back c) ≡ true → c ≡ None
 unfolding crossed granted number values
-crossed_simple ring n back Simple q = refl
-crossed_simple ring n true (Edges i j) q = absurd (false≢true q)
-crossed_simple ring n false (Edges i j) q = absurd (false≢true q)
+crossed_simple ring n back None q = refl
+crossed_simple ring n true (Some p) q = absurd (false≢true q)
+crossed_simple ring n false (Some p) q = absurd (false≢true q)
 
 module _ (door : Bool) (room ring : ℕ) (ps : List Float) (n m : ℕ) (left : m ≡ kept ps n) (three : 3 ≤ m) (less : m ≤ n) (fit : m ≤ room) (near : (k : ℕ) → k < m → Within (vertex_at ps k)) where
   reversed_sound : (back : Bool) → Sound room ps n (check_reversed ring ps m back)

@@ -91,9 +91,9 @@ module _ (door : Bool) (ring : ℕ) (ps : List Float) (n : ℕ) (b : Bool) (e : 
   unfolding edge_refusal
   refused_seven h = rw (sym e ∙ h) refl
 
-  pub asked_at_door : (h : Bool) (r : Refusal) → b ≡ false → door ≡ true → h ≡ hairline ps n → r ≡ cond h (Hairline ring) Granted → r ≡ edge_refusal door ring ps n
+  pub asked_at_door : (h : Bool) → b ≡ false → door ≡ true → hairline ps n ≡ h → cond h (Hairline ring) Granted ≡ edge_refusal door ring ps n
   unfolding edge_refusal
-  asked_at_door h r no at f g = rw (sym e ∙ no, at, ← f) g
+  asked_at_door h no at f = rw (sym e ∙ no, at, f) refl
 
   pub granted_within : b ≡ false → door ≡ false → Granted ≡ edge_refusal door ring ps n
   unfolding edge_refusal

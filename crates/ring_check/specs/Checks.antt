@@ -1,13 +1,12 @@
 -- polygon.rs, the check of a ring: questions 4 to 9, for a room, of the ring of this number; and the same check at the door, where 27 is
 -- asked, too (R-7). Assumes nothing.
-use Rattle.std.specs.Prelude.{Bool, true, false, cond, not, ◌&&◌, ◌||◌, Float, ℕ, ◌-◌, List, ltb}
+use Rattle.std.specs.Prelude.{Bool, true, false, cond, not, ◌&&◌, ◌||◌, Float, ℕ, ◌-◌, List, ltb, Option, None, Some}
 use Rattle.std.specs.Float.{binary64}
 use Rattle.std.specs.Float.Ieee.{lt, le, of_bits}
 use Rattle.plane.specs.declared.PlanarPoint.{PlanarPoint}
 use Rattle.error.specs.declared.Refusal.{Refusal}
 use Rattle.error.specs.declared.Refusal.TheVariants.{Granted, Range, Room, Crossed, Flat, Repeated, Few, Hairline}
-use Rattle.ring_cross.specs.declared.Crossing.{Crossing}
-use Rattle.ring_cross.specs.declared.Crossing.TheVariants.{Simple, Edges}
+use Rattle.ring_cross.specs.declared.EdgePair.{EdgePair}
 use Rattle.ring_check.specs.declared.Checked.{Checked}
 use Rattle.plane.specs.Plane.{same, sub}
 use Rattle.plane.specs.Points.{length_of}
@@ -70,9 +69,9 @@ unfoldable pub flat : Float → Float → Bool
 flat signed s = le (abs signed) (mul (mul min_relative_area s) s)
 
 -- edge k of the reversed ring is edge n − 1 − k of the input
-unfoldable pub crossed : ℕ → ℕ → Bool → Crossing → Refusal
-crossed ring n back Simple = Granted
-crossed ring n back (Edges i j) = cond back (Crossed ring (n - 1 - j) (n - 1 - i)) (Crossed ring i j)
+unfoldable pub crossed : ℕ → ℕ → Bool → Option EdgePair → Refusal
+crossed ring n back None = Granted
+crossed ring n back (Some c) = cond back (Crossed ring (n - 1 - c.second) (n - 1 - c.first)) (Crossed ring c.first c.second)
 
 unfoldable pub refused : Refusal → Checked
 refused r = record { refusal = r; count = 0; back = false }

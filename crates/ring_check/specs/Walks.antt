@@ -1,6 +1,6 @@
 -- What the code asks in place of the definition: the test of a vertex without its refusal, and an edge's width on an axis, which tells
 -- without a root that it is no hairline; and a vertex that is not there. Assumes nothing.
-use Rattle.std.specs.Prelude.{ℕ, ◌≡◌, Bool, true, false, cond, not, ◌&&◌, ◌||◌, List, ltb, Float}
+use Rattle.std.specs.Prelude.{ℕ, ◌<◌, ◌≡◌, Bool, true, false, cond, not, ◌&&◌, ◌||◌, List, ltb, Float}
 use Rattle.std.specs.Float.{nan}
 use Rattle.std.specs.Float.Ieee.{le, neg}
 use Rattle.plane.specs.declared.PlanarPoint.{PlanarPoint}
@@ -10,6 +10,23 @@ use Rattle.error.specs.declared.Refusal.TheVariants.{Granted, Range, Repeated, H
 use Rattle.ring.specs.Ring.{vertex_at, edge_end}
 use Rattle.base.specs.Loop.{rounds}
 use Rattle.ring_check.specs.Checks.{hairline_length, beyond, vertex_refusal, repeats, hairline}
+
+-- ---- a test of edges, as what its answer is told to be
+
+-- an edge that passes
+pub record Passing (test : PlanarPoint → PlanarPoint → Bool → Type 0) (ps : List Float) (n : ℕ) : Type 0 where
+  pub at : ℕ
+  pub under : at < n
+  pub is : test (vertex_at ps at) (edge_end ps n at) true
+
+-- none of the first i edges passes, and none at all
+abbrev pub NoneYet : (PlanarPoint → PlanarPoint → Bool → Type 0) → List Float → ℕ → ℕ → Type 0
+NoneYet test ps n i = (k : ℕ) → k < i → test (vertex_at ps k) (edge_end ps n k) false
+
+abbrev pub NonePasses : (PlanarPoint → PlanarPoint → Bool → Type 0) → List Float → ℕ → Type 0
+NonePasses test ps n = NoneYet test ps n n
+
+-- ---- the tests
 
 -- vertex k is in range, and there is room for it
 unfoldable pub passes : ℕ → ℕ → PlanarPoint → Bool

@@ -2,7 +2,7 @@
 // vertices there is room for, `index` the ring's number.
 #![tactic(auto)]
 
-ghost use Rattle.std.specs.Prelude.{◌≡◌, cond};
+ghost use Rattle.std.specs.Prelude.{◌≡◌, cond, MatchBool};
 ghost use Rattle.std.specs.Float.Ieee.{lt};
 ghost use Rattle.plane.specs.Plane;
 ghost use Rattle.plane.specs.Points;
@@ -11,7 +11,7 @@ ghost use Rattle.ring_check.specs.Walks;
 
 use error::Refusal;
 use plane::PlanarPoint;
-use ring_cross::Crossing;
+use ring_cross::EdgePair;
 
 // What the ring check answers: how many vertices are kept, and whether they are stored in reverse.
 #[derive(Clone, Copy)]
@@ -27,13 +27,6 @@ const MIN_RELATIVE_AREA: f64 = 1e-12;
 
 // An edge that is shorter is a hairline.
 const HAIRLINE: f64 = 1e-6;
-
-// a where the test holds, else b.
-pub(crate) fn choose(test: bool, a: Checked, b: Checked) -> Checked
-    ensures { result ≡ cond test a b }
-{
-    if test { a } else { b }
-}
 
 // How many vertices are kept: one closing repeat is dropped.
 pub(crate) fn kept(ps: &[f64], n: usize) -> usize
@@ -61,9 +54,9 @@ pub(crate) fn vertex_refusal(
 ) -> Refusal
     ensures { result ≡ Checks.vertex_refusal room index n k v }
 {
-    let fits = error::choose(k < room, Refusal::Granted, Refusal::Room(index, n, room));
-    let north = error::choose(beyond(v.north), Refusal::Range(index, v.north), fits);
-    error::choose(beyond(v.east), Refusal::Range(index, v.east), north)
+    let fits = base::choose(k < room, Refusal::Granted, Refusal::Room(index, n, room));
+    let north = base::choose(beyond(v.north), Refusal::Range(index, v.north), fits);
+    base::choose(beyond(v.east), Refusal::Range(index, v.east), north)
 }
 
 // Whether nothing is refused of vertex k.
@@ -77,97 +70,75 @@ pub(crate) fn passes(room: usize, k: usize, v: PlanarPoint) -> bool
 pub(crate) fn check_range(room: usize, index: usize, ps: &[f64], n: usize) -> Refusal
     ensures { result ≡ Checks.check_range room index ps.now n }
 {
-    let mut k = 0;
-    while k < n {
+    for k in 0..n {
         let v = ring::vertex_at(ps, k);
         if !passes(room, k, v) {
             return vertex_refusal(room, index, n, k, v);
         }
-        k += 1;
     }
     Refusal::Granted
+}
+
+// Whether an edge, the closing one included, passes the test: none is asked after one that does.
+pub(crate) fn any_edge<F: Fn(PlanarPoint, PlanarPoint) -> bool>(
+    ps: &[f64],
+    n: usize,
+    test: F,
+) -> bool
+    requires { F.IsAlwaysCallable test }
+    ensures { MatchBool result (Walks.Passing (F.post test) ps.now n) (Walks.NonePasses (F.post test) ps.now n) }
+{
+    let mut a = ring::vertex_at(ps, 0);
+    for k in 0..n {
+        let b = ring::edge_end(ps, n, k);
+        if test(a, b) {
+            return true;
+        }
+        a = b;
+    }
+    false
 }
 
 // Whether two neighbours are equal.
 pub(crate) fn repeats(ps: &[f64], n: usize) -> bool
     ensures { result ≡ Checks.repeats ps.now n }
 {
-    let mut a = ring::vertex_at(ps, 0);
-    let mut k = 0;
-    while k < n {
-        let b = ring::edge_end(ps, n, k);
-        if plane::same(a, b) {
-            return true;
-        }
-        a = b;
-        k += 1;
-    }
-    false
+    any_edge(ps, n, plane::same)
 }
 
 // Whether a number reaches the least length, up or down. A NaN does not.
 pub(crate) fn reaches(x: f64) -> bool
     ensures { result ≡ Walks.reaches x }
 {
-    if HAIRLINE <= x {
-        return true;
-    }
-    x <= -HAIRLINE
+    HAIRLINE <= x || x <= -HAIRLINE
 }
 
 // Whether the edge from a to b reaches it east or north: then its ends differ, and it is no hairline.
 pub(crate) fn wide(a: PlanarPoint, b: PlanarPoint) -> bool
     ensures { result ≡ Walks.wide a b }
 {
-    if reaches(b.east - a.east) {
-        return true;
-    }
-    reaches(b.north - a.north)
+    reaches(b.east - a.east) || reaches(b.north - a.north)
 }
 
 // Whether every edge does.
 pub(crate) fn all_wide(ps: &[f64], n: usize) -> bool
     ensures { result ≡ Walks.all_wide ps.now n }
 {
-    let mut a = ring::vertex_at(ps, 0);
-    let mut k = 0;
-    while k < n {
-        let b = ring::edge_end(ps, n, k);
-        if !wide(a, b) {
-            return false;
-        }
-        a = b;
-        k += 1;
-    }
-    true
+    !any_edge(ps, n, |a, b| !wide(a, b))
 }
 
 // Whether the edge from a to b is a hairline. A root is taken only where the width does not tell.
 pub(crate) fn short(a: PlanarPoint, b: PlanarPoint) -> bool
     ensures { result ≡ lt (Points.length_of (Plane.sub b a)) Checks.hairline_length }
 {
-    if wide(a, b) {
-        false
-    } else {
-        plane::length_of(plane::sub(b, a)) < HAIRLINE
-    }
+    !wide(a, b) && plane::length_of(plane::sub(b, a)) < HAIRLINE
 }
 
 // Whether some edge, the closing one included, is a hairline.
 pub(crate) fn hairline(ps: &[f64], n: usize) -> bool
     ensures { result ≡ Checks.hairline ps.now n }
 {
-    let mut a = ring::vertex_at(ps, 0);
-    let mut k = 0;
-    while k < n {
-        let b = ring::edge_end(ps, n, k);
-        if short(a, b) {
-            return true;
-        }
-        a = b;
-        k += 1;
-    }
-    false
+    any_edge(ps, n, short)
 }
 
 // Questions 7 and, at the door, 27. Neither is walked where every edge is wide.
@@ -180,11 +151,10 @@ pub(crate) fn edge_refusal(door: bool, index: usize, ps: &[f64], n: usize) -> Re
     if repeats(ps, n) {
         return Refusal::Repeated(index);
     }
-    if door {
-        error::choose(hairline(ps, n), Refusal::Hairline(index), Refusal::Granted)
-    } else {
-        Refusal::Granted
+    if door && hairline(ps, n) {
+        return Refusal::Hairline(index);
     }
+    Refusal::Granted
 }
 
 // Whether the area is nothing beside the square of the span s.
@@ -195,19 +165,17 @@ pub(crate) fn flat(signed: f64, s: f64) -> bool
 }
 
 // Edge k of the reversed ring is edge n - 1 - k of the input.
-pub(crate) fn crossed(index: usize, n: usize, back: bool, c: Crossing) -> Refusal
+pub(crate) fn crossed(index: usize, n: usize, back: bool, c: Option<EdgePair>) -> Refusal
     ensures { result ≡ Checks.crossed index n back c }
 {
     match c {
-        Crossing::Simple => Refusal::Granted,
-        Crossing::Edges(i, j) => {
+        None => Refusal::Granted,
+        Some(EdgePair { first, second }) => {
             let last = base::less(n, 1);
-            let first = base::less(last, j);
-            let second = base::less(last, i);
-            error::choose(
+            base::choose(
                 back,
+                Refusal::Crossed(index, base::less(last, second), base::less(last, first)),
                 Refusal::Crossed(index, first, second),
-                Refusal::Crossed(index, i, j),
             )
         }
     }
@@ -229,9 +197,9 @@ pub(crate) fn passed(r: Refusal, n: usize, back: bool) -> Checked
     let all = Checked {
         refusal: Refusal::Granted,
         count: n,
-        back: back,
+        back,
     };
-    choose(r.granted(), all, refused(r))
+    base::choose(r.granted(), all, refused(r))
 }
 
 pub(crate) fn check_reversed(index: usize, ps: &[f64], n: usize, back: bool) -> Checked

@@ -1,6 +1,6 @@
 -- R-9 of the boundary test: a point is told to be on the boundary of a ring if and only if it lies on one of its edges, in exact
 -- numbers. Proved in `proofs/Exact.antt`. Assumes nothing.
-use Rattle.std.specs.Prelude.{ℕ, ◌+◌, ◌<◌, ◌≡◌, List, Float}
+use Rattle.std.specs.Prelude.{ℕ, ◌<◌, ◌≡◌, List, Float}
 use Rattle.plane.specs.declared.Containment.TheVariants.{OnBoundary}
 use Rattle.plane.specs.declared.PlanarPoint.{PlanarPoint}
 use Rattle.turn.specs.Turns.{Finite}

@@ -6,13 +6,6 @@ ghost use Rattle.ring_contain.specs.Contains;
 
 use plane::{Containment, PlanarPoint};
 
-// a where the test holds, else b.
-pub(crate) fn choose(test: bool, a: Containment, b: Containment) -> Containment
-    ensures { result ≡ cond test a b }
-{
-    if test { a } else { b }
-}
-
 // Whether the ray from p to the east passes the edge ab, which is half-open in north.
 pub(crate) fn passes(a: PlanarPoint, b: PlanarPoint, p: PlanarPoint) -> bool
     ensures { result ≡ Contains.passes a b p }
@@ -33,26 +26,20 @@ pub(crate) fn beside(a: f64, b: f64, p: f64) -> bool
 pub fn place_of(ps: &[f64], n: usize, east: f64, north: f64) -> Containment
     ensures { result ≡ Contains.ring_contains ps.now n (record { east = east; north = north }) }
 {
-    let p = PlanarPoint {
-        east: east,
-        north: north,
-    };
+    let p = PlanarPoint { east, north };
     let mut a = ring::vertex_at(ps, 0);
     let mut inside = false;
-    let mut k = 0;
-    while k < n {
+    for k in 0..n {
         let b = ring::edge_end(ps, n, k);
-        let start = a;
-        a = b;
-        k += 1;
-        if !beside(start.north, b.north, north) {
-            if segment::on_segment(start, b, p) {
+        if !beside(a.north, b.north, north) {
+            if segment::on_segment(a, b, p) {
                 return Containment::OnBoundary;
             }
-            inside = inside != passes(start, b, p);
+            inside = inside != passes(a, b, p);
         }
+        a = b;
     }
-    choose(inside, Containment::Inside, Containment::Outside)
+    base::choose(inside, Containment::Inside, Containment::Outside)
 }
 
 pub fn ring_contains(ps: &[f64], n: usize, p: PlanarPoint) -> Containment

@@ -14,7 +14,7 @@ use Rattle.segment.proofs.Apart.{taken_in, still_in, boxes_no_meet}
 use Rattle.segment.proofs.Symmetric.{meet_symmetric}
 use Rattle.ring.specs.Ring.{vertex_at, edge_end}
 use Rattle.ring.proofs.Vertices.{at_ends}
-use Rattle.ring_cross.specs.declared.pair.Meeting.TheVariants.{Apart}
+use Rattle.std.specs.Prelude.{None}
 use Rattle.ring_cross.specs.Pair.{edge_pair}
 use Rattle.ring_cross.specs.LeftOut.{Framed, Missed, MissedBy}
 use Rattle.ring_cross.proofs.Walks.{pair_missed}
@@ -62,7 +62,7 @@ module _ (ps : List Float) (n : ℕ) (l h : PlanarPoint) (f : Framed ps n l h) (
       meet_symmetric.exchanged (vertex_at ps i) (edge_end ps n i) a1 a2 ∙ t e (vertex_at ps i) (edge_end ps n i) start_double end_double start_within end_within
 
 -- an edge of the outer walk that is passed over
-pub row_beside : (qs : List Float) (m i : ℕ) (l h a1 a2 : PlanarPoint) {r : Bool} → Framed qs m l h → PassedOver r l h a1 a2 → r ≡ true → edge_pair qs m i a1 a2 ≡ Apart
+pub row_beside : (qs : List Float) (m i : ℕ) (l h a1 a2 : PlanarPoint) {r : Bool} → Framed qs m l h → PassedOver r l h a1 a2 → r ≡ true → edge_pair qs m i a1 a2 ≡ None
 row_beside qs m i l h a1 a2 {r} f t e = pair_missed qs m i a1 a2 (λ k u. beside_ring qs m l h f k u a1 a2 r t e)
 
 -- rings in boxes apart

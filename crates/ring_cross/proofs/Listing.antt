@@ -17,8 +17,9 @@ use Rattle.base.proofs.Choices.{by_cases}
 use Rattle.plane.specs.declared.PlanarPoint.{PlanarPoint}
 use Rattle.segment.specs.Segments.{segments_meet}
 use Rattle.ring.specs.Ring.{vertex_at, edge_end}
-use Rattle.ring_cross.specs.declared.pair.Meeting.{Meeting}
-use Rattle.ring_cross.specs.declared.pair.Meeting.TheVariants.{Apart, Edges}
+use Rattle.std.specs.Prelude.{Option, None}
+use Rattle.ring_cross.specs.declared.EdgePair.{EdgePair}
+use Rattle.ring_cross.specs.EdgePairs.{edges}
 use Rattle.ring_cross.specs.Pair.{edge_step}
 use Rattle.ring_cross.specs.LeftOut.{Framed, Missed, MissedBy, stretch_from, stretch_to, Lists, ListsTo}
 use Rattle.ring_cross.proofs.Frames.{left_out}
@@ -159,28 +160,28 @@ lists_so : (P Q : ℕ → Type 0) (xs : List ℕ) (count stop : ℕ) → ((k : �
 lists_so P Q xs count stop f w = record { room = w.room; rising = w.rising; below = w.below; left_out = λ t l k a b. f k (w.left_out t l k a b) }
 
 -- ---- the walk along it
-pub list_starts : (qs : List Float) (m i : ℕ) (a1 a2 : PlanarPoint) (xs : List ℕ) → rounds (edge_step qs m i a1 a2) (stretch_from xs 0) Apart ≡ Apart
+pub list_starts : (qs : List Float) (m i : ℕ) (a1 a2 : PlanarPoint) (xs : List ℕ) → rounds (edge_step qs m i a1 a2) (stretch_from xs 0) None ≡ None
 unfolding stretch_from
-list_starts qs m i a1 a2 xs = no_round (edge_step qs m i a1 a2) Apart
+list_starts qs m i a1 a2 xs = no_round (edge_step qs m i a1 a2) None
 
 module _ (qs : List Float) (m i : ℕ) (a1 a2 : PlanarPoint) (xs : List ℕ) (count stop : ℕ) (w : Lists (Missed qs m a1 a2) xs count stop) where
-  abbrev after : ℕ → Meeting
-  after k = rounds (edge_step qs m i a1 a2) k Apart
+  abbrev after : ℕ → Option EdgePair
+  after k = rounds (edge_step qs m i a1 a2) k None
 
-  upto : (t : ℕ) → t < count → after (stretch_from xs t) ≡ Apart → after (get_or xs t 0) ≡ Apart
+  upto : (t : ℕ) → t < count → after (stretch_from xs t) ≡ None → after (get_or xs t 0) ≡ None
   upto t l = edge_skipped qs m i a1 a2 (stretch_from xs t) (get_or xs t 0) (w.rising t l)
       (λ k u v. w.left_out t (omega arith) k u (subst (λ (z : ℕ). k < z) (sym (to_entry xs count stop t l)) v))
 
-  pub list_goes_on : (t k : ℕ) → t < count → k ≡ get_or xs t 0 → after (stretch_from xs t) ≡ Apart → Missed qs m a1 a2 k → after (stretch_from xs (t + 1)) ≡ Apart
+  pub list_goes_on : (t k : ℕ) → t < count → k ≡ get_or xs t 0 → after (stretch_from xs t) ≡ None → Missed qs m a1 a2 k → after (stretch_from xs (t + 1)) ≡ None
   list_goes_on t k l e h n =
-      subst (λ (z : ℕ). after z ≡ Apart) (sym (after_entry xs t))
+      subst (λ (z : ℕ). after z ≡ None) (sym (after_entry xs t))
       (edge_none qs m i a1 a2 (get_or xs t 0) (upto t l h) (subst (Missed qs m a1 a2) e n))
 
-  pub list_finds : (t k : ℕ) → t < count → k ≡ get_or xs t 0 → after (stretch_from xs t) ≡ Apart → segments_meet a1 a2 (vertex_at qs k) (edge_end qs m k) ≡ true → after stop ≡ Edges i k
+  pub list_finds : (t k : ℕ) → t < count → k ≡ get_or xs t 0 → after (stretch_from xs t) ≡ None → segments_meet a1 a2 (vertex_at qs k) (edge_end qs m k) ≡ true → after stop ≡ edges i k
   list_finds t k l e h y =
-      edge_found qs m i a1 a2 k stop (subst (λ (z : ℕ). z < stop) (sym e) (w.below t l)) (subst (λ (z : ℕ). after z ≡ Apart) (sym e) (upto t l h)) y
+      edge_found qs m i a1 a2 k stop (subst (λ (z : ℕ). z < stop) (sym e) (w.below t l)) (subst (λ (z : ℕ). after z ≡ None) (sym e) (upto t l h)) y
 
-  pub list_ends : (t : ℕ) → t ≤ count → count ≤ t → after (stretch_from xs t) ≡ Apart → after stop ≡ Apart
+  pub list_ends : (t : ℕ) → t ≤ count → count ≤ t → after (stretch_from xs t) ≡ None → after stop ≡ None
   list_ends t l g h =
       edge_skipped qs m i a1 a2 (stretch_from xs t) stop (start_under (Missed qs m a1 a2) xs count stop w t l)
       (λ k u v. w.left_out t l k u (subst (λ (z : ℕ). k < z) (sym (to_stop xs count stop t g)) v)) h

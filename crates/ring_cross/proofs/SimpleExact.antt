@@ -14,7 +14,8 @@ use Rattle.segment.specs.Segments.{segments_meet, folds_back}
 use Rattle.segment.proofs.Theorem.{meet_iff_shared}
 use Rattle.ring.specs.Ring.{following, stored_at}
 use Rattle.ring.proofs.Vertices.{following_lt}
-use Rattle.ring_cross.specs.declared.Crossing.TheVariants.{Simple, Edges}
+use Rattle.std.specs.Prelude.{None}
+use Rattle.ring_cross.specs.EdgePairs.{edges}
 use Rattle.ring_cross.specs.Simple.{crossing, crossing_by, check_simple}
 use Rattle.ring_cross.specs.SimpleExact.{FiniteRing, EdgesShare, Strangers, Folded, next, round, Why, shared, folded, SimpleExact}
 use Rattle.ring_cross.proofs.Found.{none_crosses, Crosses, named_crosses}
@@ -54,14 +55,14 @@ module _ (ps : List Float) (n : ℕ) (back : Bool) where
     end_finite : (k : ℕ) → k < n → Finite (v (following n k))
     end_finite k l = finite (following n k) (following_lt n k l)
 
-    not_shared : check_simple ps n back ≡ Simple → (i j : ℕ) → Strangers n i j → EdgesShare ps n back i j → ⊥
+    not_shared : check_simple ps n back ≡ None → (i j : ℕ) → Strangers n i j → EdgesShare ps n back i j → ⊥
     not_shared e i j w s =
         let a : i < n = omega (arith, w.later, w.within) in
         let m = meet_iff_shared.sharing_meet _ _ _ _ (finite i a) (end_finite i a) (finite j w.within) (end_finite j w.within) s in
         true≢false (sym m ∙ sym (asked i j w) ∙ none_crosses ps n back e i j (omega (arith, w.later)) w.within)
 
     -- an edge and the next; the first and the last; no neighbours
-    named_why : (i j : ℕ) → check_simple ps n back ≡ Edges i j → Why ps n back i j
+    named_why : (i j : ℕ) → check_simple ps n back ≡ edges i j → Why ps n back i j
     named_why i j e = let w = named_crosses ps n back i j e in go w (eqb j (i + 1)) refl (eqb i 0 && eqb j (n - 1)) refl
       where
         strangers : Crosses ps n back i j → eqb j (i + 1) ≡ false → (eqb i 0 && eqb j (n - 1)) ≡ false → Strangers n i j
@@ -89,7 +90,7 @@ module _ (ps : List Float) (n : ℕ) (back : Bool) where
             shared s (meet_iff_shared.meeting_share _ _ _ _ (finite i a) (end_finite i a) (finite j w.under) (end_finite j w.under)
             (sym (asked i j s) ∙ w.is))
 
-  not_folded : check_simple ps n back ≡ Simple → (i j : ℕ) → i < j → j < n → Folded ps n back i j → ⊥
+  not_folded : check_simple ps n back ≡ None → (i j : ℕ) → i < j → j < n → Folded ps n back i j → ⊥
   not_folded e i j l m (next a f) = true≢false (sym f ∙ sym (asked_next i j a) ∙ none_crosses ps n back e i j l m)
   not_folded e i j l m (round a b c f) = true≢false (sym f ∙ sym (asked_round i j a b c) ∙ none_crosses ps n back e i j l m)
 

@@ -1,9 +1,9 @@
 -- R-9 in numbers: rings of which rounded turns told something else. The first three go round clockwise, so they are stored backwards;
 -- `check_simple` names edges in the stored order. Proved in `proofs/Examples.antt`. Assumes nothing.
-use Rattle.std.specs.Prelude.{◌≡◌, true, false, List, [], ◌∷◌, ℕ, Float}
+use Rattle.std.specs.Prelude.{◌≡◌, true, false, List, [], ◌∷◌, ℕ, Float, None}
 use Rattle.std.specs.Float.{binary64}
 use Rattle.std.specs.Float.Ieee.{of_bits}
-use Rattle.ring_cross.specs.declared.Crossing.TheVariants.{Simple, Edges}
+use Rattle.ring_cross.specs.EdgePairs.{edges}
 use Rattle.ring_cross.specs.Simple.{check_simple}
 
 abbrev pub d : ℕ → Float
@@ -36,10 +36,10 @@ touching =
 
 pub record SimpleExamples : Type 0 where
   -- rounded turns told 1 and 3, which are 0 and 2 of the ring as it was given
-  pub dart_is_simple : check_simple dart 4 true ≡ Simple
+  pub dart_is_simple : check_simple dart 4 true ≡ None
   -- rounded turns told 0 and 3 here; 1 and 3 are 0 and 2 of the ring as it was given
-  pub crossed_by : check_simple crossed 4 true ≡ Edges 1 3
+  pub crossed_by : check_simple crossed 4 true ≡ edges 1 3
   -- rounded turns told 2 and 4
-  pub aligned_is_simple : check_simple aligned 5 true ≡ Simple
+  pub aligned_is_simple : check_simple aligned 5 true ≡ None
   -- by rounded turns it was simple
-  pub touching_itself : check_simple touching 4 false ≡ Edges 1 3
+  pub touching_itself : check_simple touching 4 false ≡ edges 1 3

@@ -1,3 +1,4 @@
+pub mod EdgePairs
 pub mod Simple
 pub mod SimpleExact
 pub mod Examples

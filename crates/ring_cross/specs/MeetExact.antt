@@ -1,6 +1,6 @@
 -- R-9 of the crossing test: two rings are told to meet if and only if an edge of the one and an edge of the other share a point, in
 -- exact numbers. Proved in `proofs/MeetExact.antt`. Assumes nothing.
-use Rattle.std.specs.Prelude.{ℕ, ◌+◌, ◌<◌, ◌≡◌, true, List, Float}
+use Rattle.std.specs.Prelude.{ℕ, ◌<◌, ◌≡◌, true, List, Float}
 use Rattle.turn.specs.Turns.{Finite}
 use Rattle.segment.specs.Meeting.{Shared}
 use Rattle.ring.specs.Ring.{vertex_at, edge_end}

@@ -1,7 +1,7 @@
 -- R-3 in numbers. Proved in `proofs/PairExamples.antt`. Assumes nothing.
-use Rattle.std.specs.Prelude.{◌≡◌, true, List, [], ◌∷◌, Float}
+use Rattle.std.specs.Prelude.{◌≡◌, true, List, [], ◌∷◌, Float, None}
 use Rattle.std.specs.Float.{nan}
-use Rattle.ring_cross.specs.declared.pair.Meeting.TheVariants.{Apart, Edges}
+use Rattle.ring_cross.specs.EdgePairs.{edges}
 use Rattle.ring_cross.specs.Meet.{rings_meet}
 use Rattle.ring_cross.specs.Pair.{ring_pair}
 use Rattle.ring_cross.specs.Examples.{d}
@@ -31,13 +31,13 @@ broken =
 
 pub record PairExamples : Type 0 where
   -- the triangle has fewer vertices, so its edge stands first, by either name first
-  pub fewer_second : ring_pair square 4 triangle 3 ≡ Edges 0 1
-  pub fewer_first : ring_pair triangle 3 square 4 ≡ Edges 0 1
+  pub fewer_second : ring_pair square 4 triangle 3 ≡ edges 0 1
+  pub fewer_first : ring_pair triangle 3 square 4 ≡ edges 0 1
   -- of equal ones the first named is outer: neither pair is the other one read backwards
-  pub equal : ring_pair square 4 blade 4 ≡ Edges 0 2
-  pub equal_turned : ring_pair blade 4 square 4 ≡ Edges 0 1
+  pub equal : ring_pair square 4 blade 4 ≡ edges 0 2
+  pub equal_turned : ring_pair blade 4 square 4 ≡ edges 0 1
   -- NaN, too: yes exactly where it was yes
-  pub not_numbers : ring_pair square 4 broken 3 ≡ Edges 0 1
+  pub not_numbers : ring_pair square 4 broken 3 ≡ edges 0 1
   pub not_numbers_meet : rings_meet square 4 broken 3 ≡ true
   -- no vertex, no edge
-  pub no_ring : ring_pair square 4 [] 0 ≡ Apart
+  pub no_ring : ring_pair square 4 [] 0 ≡ None

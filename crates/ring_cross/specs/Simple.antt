@@ -1,8 +1,9 @@
 -- polygon.rs, `check_simple`: the first two edges that cross or touch. Assumes nothing.
-use Rattle.std.specs.Prelude.{ℕ, ◌+◌, ◌-◌, Bool, cond, ◌&&◌, List, eqb, Float}
+use Rattle.std.specs.Prelude.{ℕ, ◌+◌, ◌-◌, Bool, cond, ◌&&◌, List, eqb, Float, Option, None}
+use Rattle.std.specs.Option.{option_or}
 use Rattle.plane.specs.declared.PlanarPoint.{PlanarPoint}
-use Rattle.ring_cross.specs.declared.Crossing.{Crossing}
-use Rattle.ring_cross.specs.declared.Crossing.TheVariants.{Simple, Edges}
+use Rattle.ring_cross.specs.declared.EdgePair.{EdgePair}
+use Rattle.ring_cross.specs.EdgePairs.{edges}
 use Rattle.segment.specs.Segments.{segments_meet, folds_back}
 use Rattle.ring.specs.Ring.{following, stored_at}
 use Rattle.base.specs.Loop.{rounds}
@@ -21,20 +22,16 @@ crossing ps n back i j =
     (stored_at ps n back (following n j))
 
 -- a pair that was found stays
-unfoldable pub unless_crossed : Crossing → Crossing → Crossing
-unless_crossed Simple x = x
-unless_crossed (Edges i j) x = Edges i j
+unfoldable pub pair_step : List Float → ℕ → Bool → ℕ → ℕ → Option EdgePair → Option EdgePair
+pair_step ps n back i k s = option_or s (cond (crossing ps n back i (i + 1 + k)) (edges i (i + 1 + k)) None)
 
-unfoldable pub pair_step : List Float → ℕ → Bool → ℕ → ℕ → Crossing → Crossing
-pair_step ps n back i k s = unless_crossed s (cond (crossing ps n back i (i + 1 + k)) (Edges i (i + 1 + k)) Simple)
+unfoldable pub edge_step : List Float → ℕ → Bool → ℕ → Option EdgePair → Option EdgePair
+edge_step ps n back i s = option_or s (rounds (pair_step ps n back i) (n - (i + 1)) None)
 
-unfoldable pub edge_step : List Float → ℕ → Bool → ℕ → Crossing → Crossing
-edge_step ps n back i s = unless_crossed s (rounds (pair_step ps n back i) (n - (i + 1)) Simple)
-
-unfoldable pub check_simple : List Float → ℕ → Bool → Crossing
-check_simple ps n back = rounds (edge_step ps n back) n Simple
+unfoldable pub check_simple : List Float → ℕ → Bool → Option EdgePair
+check_simple ps n back = rounds (edge_step ps n back) n None
 
 -- opens every definition above, for a proof that computes with all of them
 unfoldable pub open_simple : Unit {0}
-unfolding crossing_by crossing unless_crossed pair_step edge_step check_simple
+unfolding crossing_by crossing pair_step edge_step check_simple
 open_simple = tt

@@ -1,12 +1,12 @@
 -- R-9 of a whole ring: "Two segments with finite ends are then reported as meeting if and only if they share a point." So a ring is
 -- told to be simple only where no two of its edges that are no neighbours share a point, and a pair that is named does share one, or
 -- folds back. Proved in `proofs/SimpleExact.antt`. Assumes nothing.
-use Rattle.std.specs.Prelude.{ℕ, ◌+◌, ◌<◌, ◌≡◌, Bool, true, false, List, Float}
+use Rattle.std.specs.Prelude.{ℕ, ◌+◌, ◌<◌, ◌≡◌, Bool, true, List, Float, None}
 use Rattle.turn.specs.Turns.{Finite}
 use Rattle.segment.specs.Segments.{folds_back}
 use Rattle.segment.specs.Meeting.{Shared}
 use Rattle.ring.specs.Ring.{following, stored_at}
-use Rattle.ring_cross.specs.declared.Crossing.TheVariants.{Simple, Edges}
+use Rattle.ring_cross.specs.EdgePairs.{edges}
 use Rattle.ring_cross.specs.Simple.{check_simple}
 
 -- every number of the stored ring is a finite double
@@ -42,9 +42,9 @@ pub data Why (ps : List Float) (n : ℕ) (back : Bool) (i j : ℕ) : Type 0 wher
 
 -- THE STATEMENT, of the ring as it is stored
 pub record SimpleExact : Type 0 where
-  pub simple : (ps : List Float) (n : ℕ) (back : Bool) → FiniteRing ps n back → check_simple ps n back ≡ Simple
+  pub simple : (ps : List Float) (n : ℕ) (back : Bool) → FiniteRing ps n back → check_simple ps n back ≡ None
       → (i j : ℕ) → Strangers n i j → EdgesShare ps n back i j → ⊥
-  pub unfolded : (ps : List Float) (n : ℕ) (back : Bool) → check_simple ps n back ≡ Simple
+  pub unfolded : (ps : List Float) (n : ℕ) (back : Bool) → check_simple ps n back ≡ None
       → (i j : ℕ) → i < j → j < n → Folded ps n back i j → ⊥
   pub named : (ps : List Float) (n : ℕ) (back : Bool) → FiniteRing ps n back
-      → (i j : ℕ) → check_simple ps n back ≡ Edges i j → Why ps n back i j
+      → (i j : ℕ) → check_simple ps n back ≡ edges i j → Why ps n back i j

@@ -2,7 +2,7 @@
 use Prim.Native.Nat.{ℕ, ◌+◌, ◌*◌, ◌≤◌}
 use native.Mathlib.Omega.{arith}
 use mathlib.Core.Path.{◌≡◌, refl, sym, ap, ◌∙◌, subst}
-use mathlib.Core.Bool.{Bool, true, false, not, cond, ◌||◌, true≢false, false≢true}
+use mathlib.Core.Bool.{Bool, true, false, cond, ◌||◌, true≢false, false≢true}
 use borrow.Author.Tests.{ltb-false, le-ltb}
 use lib.Ieee.{Float, nan, inf, fin, binary64, up, down, lt, le, neg, add, mul, is_nan}
 use lib.Ieee.Fits.{sub-fits}
@@ -19,7 +19,7 @@ use Rattle.segment.specs.Segments.{along, foot, closest_on_segment}
 use Rattle.segment.specs.Boxes.{lesser, greater, low, high, Within}
 use Rattle.segment.proofs.Apart.{taken_in, still_in, still_not_below, still_not_above}
 use Rattle.ring_near.specs.Near.{gap_to}
-use Rattle.ring_gap.specs.declared.Block.{Block}
+use Rattle.plane.specs.declared.Bounds.{Bounds}
 use Rattle.ring_gap.specs.Blocks.{gap_between, widened, beyond, BeyondNotNearer}
 use Rattle.ring_gap.proofs.Monotone.{Between, upward, downward, Part, nought, whole, mul_between, add_kept_second, sub_kept, start_number, end_number, lt_neg}
 
@@ -136,7 +136,7 @@ module _ (a b : Float) where
     kept_step = kept_by (subst (λ (w : Float). Between step (mul binary64 w (Number.sub b a))) (sym whole_is) (mul_between t (Number.sub b a) p))
 
 -- ---- a box, widened
-module _ (s : Block) (a b : PlanarPoint) where
+module _ (s : Bounds) (a b : PlanarPoint) where
   pub widened_keeps : (z : PlanarPoint) → Within s.low s.high z → Within (widened s a b).low (widened s a b).high z
   unfolding widened
   widened_keeps z w = still_in _ _ _ z (still_in _ _ _ z (still_in s.low s.high a z w))
@@ -207,7 +207,7 @@ at_most_under b y x g h = go (lt b x) refl
     go true e = sym g ∙ past b x y e h
     go false e = refl
 
-module _ (s : Block) (q z : PlanarPoint) (least : Float) (w : Within s.low s.high z) where
+module _ (s : Bounds) (q z : PlanarPoint) (least : Float) (w : Within s.low s.high z) where
   long_east : lt (abs (sub z q).east) least ≡ false → lt (length_of (sub z q)) least ≡ false
   unfolding length_of sub
   long_east h = hypot_not_below _ _ least (sub-fits binary64 z.east q.east) h

@@ -1,12 +1,12 @@
 -- The walks of the code, step by step: the box of a block, the edges of a block, the vertices beside a block, the blocks of a ring. Assumes nothing.
-use Prim.Native.Nat.{ℕ, ◌+◌, ◌-◌, ◌≤◌, ◌<◌}
+use Prim.Native.Nat.{ℕ, ◌+◌, ◌≤◌, ◌<◌}
 use native.Mathlib.Nat.{eq-or-lt_of_le}
 use native.Mathlib.Omega.{arith}
 use mathlib.Core.Logic.{◌⊎◌, inl, inr}
 use mathlib.Core.Path.{◌≡◌, refl, sym, ◌∙◌, subst}
-use mathlib.Core.Bool.{Bool, true, false, not, cond}
+use mathlib.Core.Bool.{Bool, true, false, cond}
 use mathlib.Core.List.{List}
-use borrow.Author.Tests.{not-false, ltb-true, ltb-false}
+use borrow.Author.Tests.{ltb-true, ltb-false}
 use lib.Dec.{T, ltb}
 use lib.Ieee.{Float, binary64, fits, lt}
 use lib.Ieee.Fits.{sub-fits}
@@ -20,7 +20,7 @@ use Rattle.ring.specs.Ring.{vertex_at, edge_end}
 use Rattle.ring.proofs.Starts.{start_next, start_edge}
 use Rattle.ring_near.specs.Near.{gap_to, clearly}
 use Rattle.ring_near.proofs.Leads.{not_shorter}
-use Rattle.ring_gap.specs.declared.Block.{Block}
+use Rattle.plane.specs.declared.Bounds.{Bounds}
 use Rattle.ring_gap.specs.Blocks.{gap_between, edge_gap, FromEdges, FromVertices, Least, taken, widened, Spans, beyond, Run}
 use Rattle.ring_gap.proofs.Boxed.{widened_keeps, widened_takes, beyond_not_nearer}
 use Rattle.ring_gap.proofs.LeastOf.{least_still, least_taken, least_join}
@@ -72,13 +72,6 @@ starts_on ps n from to k b r e l = e ∙ start_next ps n k ∙ start_edge ps n (
     within : to ≤ n → k + 1 < n
     within h = omega arith
 
--- ---- where a block ends
-pub run_last : (n from : ℕ) → from < n → Run n from n
-run_last n from h = record { some = h; within = omega arith }
-
-pub run_eight : (n from : ℕ) → 8 ≤ n - from → Run n from (from + 8)
-run_eight n from h = record { some = omega arith; within = omega arith }
-
 pub up_to : (n from to : ℕ) → Run n from to → from ≤ to
 up_to n from to r = less r.some
   where
@@ -87,10 +80,10 @@ up_to n from to r = less r.some
 
 -- ---- the box of a block
 module _ (ps : List Float) (n from : ℕ) where
-  pub spans_none : (s : Block) → Spans ps n from from s
+  pub spans_none : (s : Bounds) → Spans ps n from from s
   spans_none s k a b = absurd (omega arith)
 
-  pub spans_on : (k : ℕ) (s : Block) → Spans ps n from k s → (a b : PlanarPoint) (r : Block) → a ≡ vertex_at ps k → b ≡ edge_end ps n k → r ≡ widened s a b → Spans ps n from (k + 1) r
+  pub spans_on : (k : ℕ) (s : Bounds) → Spans ps n from k s → (a b : PlanarPoint) (r : Bounds) → a ≡ vertex_at ps k → b ≡ edge_end ps n k → r ≡ widened s a b → Spans ps n from (k + 1) r
   spans_on k s w a b r ea eb er j l h q = elim (last_or k j h) [
     | inl e ↦
         rw er
@@ -99,7 +92,7 @@ module _ (ps : List Float) (n from : ℕ) where
     | inr g ↦ rw er (widened_keeps s a b _ (w j l g q))
   ]
 
-  pub spans_all : (to k : ℕ) (s : Block) → Spans ps n from k s → to ≤ k → Spans ps n from to s
+  pub spans_all : (to k : ℕ) (s : Bounds) → Spans ps n from k s → to ≤ k → Spans ps n from to s
   spans_all to k s w h j l g q = w j l (omega arith) q
 
 -- ---- one point and the edges of a block
@@ -159,14 +152,14 @@ module _ (ps : List Float) (n from to : ℕ) (qs : List Float) (least : Float) w
 
   -- the block is left out
   pub vertices_beyond :
-      (i : ℕ) (s : Float) (q : PlanarPoint) (frame : Block) (t : Bool) → Spans ps n from to frame → q ≡ vertex_at qs i → t ≡ beyond frame q s → not t ≡ false →
+      (i : ℕ) (s : Float) (q : PlanarPoint) (frame : Bounds) (t : Bool) → Spans ps n from to frame → q ≡ vertex_at qs i → t ≡ beyond frame q s → t ≡ true →
       Least (FromVertices ps n from to qs i) least s → Least (FromVertices ps n from to qs (i + 1)) least s
   unfolding edge_gap
   vertices_beyond i s q frame t w eq et h v =
       vertices_on i s s q eq v (least_still _ s (λ x p. far x p.edge p.after p.before p.is))
     where
       far : (x : Float) (k : ℕ) → from ≤ k → k < to → x ≡ edge_gap ps n k q → lt x s ≡ false
-      far x k a b e = rw e (beyond_not_nearer frame q (vertex_at ps k) (edge_end ps n k) s (w k a b q) (sym et ∙ not-false t h))
+      far x k a b e = rw e (beyond_not_nearer frame q (vertex_at ps k) (edge_end ps n k) s (w k a b q) (sym et ∙ h))
 
 -- ---- the blocks of a ring
 module _ (ps : List Float) (n : ℕ) (qs : List Float) (m : ℕ) (least : Float) where

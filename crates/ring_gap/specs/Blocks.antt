@@ -10,7 +10,7 @@ use Rattle.segment.specs.Segments.{along, closest_on_segment}
 use Rattle.segment.specs.Boxes.{low, high, Within}
 use Rattle.ring.specs.Ring.{vertex_at, edge_end}
 use Rattle.ring_near.specs.Near.{gap_to}
-use Rattle.ring_gap.specs.declared.Block.{Block}
+use Rattle.plane.specs.declared.Bounds.{Bounds}
 
 -- ---- gaps
 
@@ -47,20 +47,20 @@ taken least gap = cond (lt gap least) gap least
 -- ---- boxes
 
 -- the box, made larger by a, a - 0 and a + 1 (b - a): between the last two lies every point a + t (b - a), as rounded
-unfoldable pub widened : Block → PlanarPoint → PlanarPoint → Block
+unfoldable pub widened : Bounds → PlanarPoint → PlanarPoint → Bounds
 widened s a b = record {
   low = low (along a (sub b a) one) (low (sub a origin) (low a s.low));
   high = high (along a (sub b a) one) (high (sub a origin) (high a s.high));
 }
 
 -- the box holds each point of the edges from `from` to `to` that can be the nearest to some point
-abbrev pub Spans : List Float → ℕ → ℕ → ℕ → Block → Type 0
+abbrev pub Spans : List Float → ℕ → ℕ → ℕ → Bounds → Type 0
 Spans ps n from to s =
     (k : ℕ) → from ≤ k → k < to → (q : PlanarPoint) →
     Within s.low s.high (closest_on_segment q (vertex_at ps k) (edge_end ps n k))
 
 -- the box lies at least `least` east, west, north or south of q, as rounded
-unfoldable pub beyond : Block → PlanarPoint → Float → Bool
+unfoldable pub beyond : Bounds → PlanarPoint → Float → Bool
 beyond s q least =
     le least (sub s.low q).east || (le (sub s.high q).east (neg least) ||
     (le least (sub s.low q).north || le (sub s.high q).north (neg least)))
@@ -68,7 +68,7 @@ beyond s q least =
 -- THE STATEMENT: no edge whose nearest points are in a box beyond `least` has a gap below it, NaN and infinite numbers too
 abbrev pub BeyondNotNearer : Type 0
 BeyondNotNearer =
-    (s : Block) (q a b : PlanarPoint) (least : Float) → Within s.low s.high (closest_on_segment q a b) →
+    (s : Bounds) (q a b : PlanarPoint) (least : Float) → Within s.low s.high (closest_on_segment q a b) →
     beyond s q least ≡ true → lt (gap_between q a b) least ≡ false
 
 -- the edges from `from` to `to` are some of the ring's

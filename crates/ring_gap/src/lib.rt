@@ -5,17 +5,10 @@ ghost use Rattle.std.specs.Prelude.{◌≤◌, ◌<◌, ◌≡◌};
 ghost use Rattle.ring_gap.specs.Gap;
 ghost use Rattle.ring_gap.specs.Blocks;
 
-use plane::PlanarPoint;
-
-// The corners of the box of a block of edges.
-#[derive(Clone, Copy)]
-pub struct Block {
-    pub low: PlanarPoint,
-    pub high: PlanarPoint,
-}
+use plane::{Bounds, PlanarPoint};
 
 // The box, made larger to hold each point of the edge ab that can be the nearest to some point, as rounded.
-pub(crate) fn widened(s: Block, a: PlanarPoint, b: PlanarPoint) -> Block
+pub(crate) fn widened(s: Bounds, a: PlanarPoint, b: PlanarPoint) -> Bounds
     ensures { result ≡ Blocks.widened s a b }
 {
     let near = plane::sub(
@@ -26,14 +19,14 @@ pub(crate) fn widened(s: Block, a: PlanarPoint, b: PlanarPoint) -> Block
         },
     );
     let far = segment::along(a, plane::sub(b, a), 1.0);
-    Block {
+    Bounds {
         low: segment::low(far, segment::low(near, segment::low(a, s.low))),
         high: segment::high(far, segment::high(near, segment::high(a, s.high))),
     }
 }
 
 // Whether the box lies at least `least` from q by one side alone.
-pub(crate) fn beyond(s: Block, q: PlanarPoint, least: f64) -> bool
+pub(crate) fn beyond(s: Bounds, q: PlanarPoint, least: f64) -> bool
     ensures { result ≡ Blocks.beyond s q least }
 {
     let l = plane::sub(s.low, q);
@@ -47,20 +40,17 @@ pub(crate) fn block_end(n: usize, from: usize) -> usize
     requires { from < n }
     ensures { Blocks.Run n from result }
 {
-    if n - from < 8 {
-        return n;
-    }
-    from + 8
+    from + (n - from).min(8)
 }
 
 // A box that holds the edges from `from` to `to`.
-pub(crate) fn block_box(ps: &[f64], n: usize, from: usize, to: usize) -> Block
+pub(crate) fn block_box(ps: &[f64], n: usize, from: usize, to: usize) -> Bounds
     requires { Blocks.Run n from to }
     ensures { Blocks.Spans ps.now n from to result }
 {
     let top = math::infinity();
     let mut a = ring::vertex_at(ps, from);
-    let mut s = Block {
+    let mut s = Bounds {
         low: PlanarPoint {
             east: top,
             north: top,
@@ -70,12 +60,10 @@ pub(crate) fn block_box(ps: &[f64], n: usize, from: usize, to: usize) -> Block
             north: -top,
         },
     };
-    let mut k = from;
-    while k < to {
+    for k in from..to {
         let b = ring::edge_end(ps, n, k);
         s = widened(s, a, b);
         a = b;
-        k += 1;
     }
     s
 }
@@ -89,7 +77,7 @@ pub(crate) fn lesser_gap(q: PlanarPoint, a: PlanarPoint, b: PlanarPoint, least: 
         return least;
     }
     let gap = plane::length_of(offset);
-    math::choose(gap < least, gap, least)
+    base::choose(gap < least, gap, least)
 }
 
 // The least gap of q from the edges from `from` to `to`, or `least`.
@@ -106,25 +94,23 @@ pub(crate) fn edges_least(
 {
     let mut a = ring::vertex_at(ps, from);
     let mut s = least;
-    let mut k = from;
-    while k < to {
+    for k in from..to {
         let b = ring::edge_end(ps, n, k);
         s = lesser_gap(q, a, b, s);
         a = b;
-        k += 1;
     }
     s
 }
 
 // The least gap of the second ring's vertices from the edges from `from` to `to`, or `least`. The edges are asked one by one only where
 // their box does not lie beyond the least so far.
-pub(crate) fn block_least<'a>(
-    ps: &'a [f64],
+pub(crate) fn block_least(
+    ps: &[f64],
     n: usize,
     from: usize,
     to: usize,
-    frame: Block,
-    qs: &'a [f64],
+    frame: Bounds,
+    qs: &[f64],
     m: usize,
     least: f64,
 ) -> f64
@@ -133,10 +119,8 @@ pub(crate) fn block_least<'a>(
     ensures { Blocks.Least (Blocks.FromVertices ps.now n from to qs.now m) least result }
 {
     let mut s = least;
-    let mut i = 0usize;
-    while i < m {
+    for i in 0..m {
         let q = ring::vertex_at(qs, i);
-        i += 1;
         if !beyond(frame, q, s) {
             s = edges_least(ps, n, from, to, q, s);
         }
@@ -145,11 +129,12 @@ pub(crate) fn block_least<'a>(
 }
 
 // The least gap from the first ring, over the vertices of the second, or `least`: block by block of 8 edges.
-pub(crate) fn least_from<'a>(ps: &'a [f64], n: usize, qs: &'a [f64], m: usize, least: f64) -> f64
+pub(crate) fn least_from(ps: &[f64], n: usize, qs: &[f64], m: usize, least: f64) -> f64
     ensures { Blocks.Least (Blocks.FromVertices ps.now n 0 n qs.now m) least result }
 {
     let mut s = least;
     let mut from = 0usize;
+    // Stays: no plainer, since a block ends where the next one starts: steps of 8 would have to find the end beside it.
     while from < n {
         let to = block_end(n, from);
         s = block_least(ps, n, from, to, block_box(ps, n, from, to), qs, m, s);
@@ -159,7 +144,7 @@ pub(crate) fn least_from<'a>(ps: &'a [f64], n: usize, qs: &'a [f64], m: usize, l
 }
 
 // The least gap over the vertices of each ring against the edges of the other.
-pub fn least_between<'a>(ps: &'a [f64], n: usize, qs: &'a [f64], m: usize) -> f64
+pub fn least_between(ps: &[f64], n: usize, qs: &[f64], m: usize) -> f64
     ensures { result ≡ Gap.least_between ps.now n qs.now m }
 {
     least_from(qs, m, ps, n, least_from(ps, n, qs, m, math::infinity()))

@@ -3,7 +3,7 @@
 use Rattle.std.specs.Prelude.{ℕ, List, Float}
 use Rattle.std.specs.Float.Ieee.{neg}
 use Rattle.plane.specs.declared.PlanarPoint.{PlanarPoint}
-use Rattle.ring_measure.specs.declared.Bounds.{Bounds}
+use Rattle.plane.specs.declared.Bounds.{Bounds}
 use Rattle.math.specs.Number
 use Rattle.math.specs.Number.{add, div, zero_float, two, abs, fmin, fmax, infinity, distance}
 use Rattle.plane.specs.Plane.{sub, cross}

@@ -4,32 +4,25 @@
 ghost use Rattle.std.specs.Prelude.{◌≡◌};
 ghost use Rattle.ring_measure.specs.Measures;
 
-use plane::PlanarPoint;
-
-// The corners of a bounding box.
-#[derive(Clone, Copy)]
-pub struct Bounds {
-    pub low: PlanarPoint,
-    pub high: PlanarPoint,
-}
+use plane::{Bounds, PlanarPoint};
 
 // Each edge starts where the last one ends.
+#[tactic(auto, using(crate::proofs::AreaWalk::walk), unfolding(crate::specs::Measures::open_measures, ring::specs::Ring::edge_end))]
 pub fn signed_area(ps: &[f64], n: usize) -> f64
     ensures { result ≡ Measures.signed_area ps.now n }
 {
     let first = ring::vertex_at(ps, 0);
     let mut a = plane::sub(first, first);
     let mut s = 0.0;
-    let mut k = 0;
-    while k < n {
+    for k in 0..n {
         let b = plane::sub(ring::edge_end(ps, n, k), first);
         s += plane::cross(a, b);
         a = b;
-        k += 1;
     }
     s / 2.0
 }
 
+#[tactic(auto, unfolding(crate::specs::Measures::area))]
 pub fn area(ps: &[f64], n: usize) -> f64
     ensures { result ≡ Measures.area ps.now n }
 {
@@ -37,27 +30,23 @@ pub fn area(ps: &[f64], n: usize) -> f64
 }
 
 // The box that holds v too.
+#[tactic(auto, unfolding(crate::specs::Measures::widened))]
 pub(crate) fn widened(b: Bounds, v: PlanarPoint) -> Bounds
     ensures { result ≡ Measures.widened b v }
 {
-    let low = b.low;
-    let high = b.high;
-    let west = math::min(low.east, v.east);
-    let south = math::min(low.north, v.north);
-    let east = math::max(high.east, v.east);
-    let north = math::max(high.north, v.north);
     Bounds {
         low: PlanarPoint {
-            east: west,
-            north: south,
+            east: math::min(b.low.east, v.east),
+            north: math::min(b.low.north, v.north),
         },
         high: PlanarPoint {
-            east: east,
-            north: north,
+            east: math::max(b.high.east, v.east),
+            north: math::max(b.high.north, v.north),
         },
     }
 }
 
+#[tactic(auto, unfolding(crate::specs::Measures::bounds_step))]
 pub(crate) fn bounds_step(ps: &[f64], k: usize, b: Bounds) -> Bounds
     ensures { result ≡ Measures.bounds_step ps.now k b }
 {
@@ -80,27 +69,26 @@ pub(crate) fn no_bounds() -> Bounds
     }
 }
 
+#[tactic(auto, unfolding(crate::specs::Measures::diagonal))]
 pub(crate) fn diagonal(b: Bounds) -> f64
     ensures { result ≡ Measures.diagonal b }
 {
-    let low = b.low;
-    let high = b.high;
-    math::hypot(high.east - low.east, high.north - low.north)
+    math::hypot(b.high.east - b.low.east, b.high.north - b.low.north)
 }
 
 // The diagonal of the bounding box.
+#[tactic(auto, using(base::proofs::Laws::counted), unfolding(crate::specs::Measures::span))]
 pub fn span(ps: &[f64], n: usize) -> f64
     ensures { result ≡ Measures.span ps.now n }
 {
     let mut s = no_bounds();
-    let mut k = 0;
-    while k < n {
+    for k in 0..n {
         s = bounds_step(ps, k, s);
-        k += 1;
     }
     diagonal(s)
 }
 
+#[tactic(auto, unfolding(crate::specs::Measures::perimeter_step))]
 pub(crate) fn perimeter_step(ps: &[f64], n: usize, k: usize, s: f64) -> f64
     ensures { result ≡ Measures.perimeter_step ps.now n k s }
 {
@@ -109,25 +97,26 @@ pub(crate) fn perimeter_step(ps: &[f64], n: usize, k: usize, s: f64) -> f64
     s + plane::length_of(plane::sub(b, a))
 }
 
+#[tactic(auto, using(base::proofs::Laws::counted), unfolding(crate::specs::Measures::perimeter))]
 pub fn perimeter(ps: &[f64], n: usize) -> f64
     ensures { result ≡ Measures.perimeter ps.now n }
 {
     let mut s = 0.0;
-    let mut k = 0;
-    while k < n {
+    for k in 0..n {
         s = perimeter_step(ps, n, k, s);
-        k += 1;
     }
     math::distance(s)
 }
 
 // The larger coordinate, without its sign.
+#[tactic(auto, unfolding(crate::specs::Measures::reach))]
 pub(crate) fn reach(v: PlanarPoint) -> f64
     ensures { result ≡ Measures.reach v }
 {
     math::max(math::abs(v.east), math::abs(v.north))
 }
 
+#[tactic(auto, unfolding(crate::specs::Measures::extent_step))]
 pub(crate) fn extent_step(ps: &[f64], k: usize, s: f64) -> f64
     ensures { result ≡ Measures.extent_step ps.now k s }
 {
@@ -135,14 +124,13 @@ pub(crate) fn extent_step(ps: &[f64], k: usize, s: f64) -> f64
 }
 
 // The largest coordinate, without its sign.
+#[tactic(auto, using(base::proofs::Laws::counted), unfolding(crate::specs::Measures::extent))]
 pub fn extent(ps: &[f64], n: usize) -> f64
     ensures { result ≡ Measures.extent ps.now n }
 {
     let mut s = 0.0;
-    let mut k = 0;
-    while k < n {
+    for k in 0..n {
         s = extent_step(ps, k, s);
-        k += 1;
     }
     s
 }

@@ -33,7 +33,7 @@ pub(crate) fn lead_to(p: PlanarPoint, q: PlanarPoint) -> Lead
 {
     let offset = plane::sub(q, p);
     Lead {
-        offset: offset,
+        offset,
         square: plane::dot(offset, offset),
         foot: q,
     }
@@ -90,11 +90,9 @@ pub(crate) fn lead_between(p: PlanarPoint, a: PlanarPoint, b: PlanarPoint, best:
 pub(crate) fn reached(s: Lead) -> Nearest
     ensures { result ≡ Near.reached s }
 {
-    let gap = plane::length_of(s.offset);
-    let foot = s.foot;
     Nearest {
-        gap: gap,
-        foot: foot,
+        gap: plane::length_of(s.offset),
+        foot: s.foot,
     }
 }
 
@@ -103,12 +101,10 @@ pub fn nearest_to(ps: &[f64], n: usize, p: PlanarPoint) -> Nearest
 {
     let mut a = ring::vertex_at(ps, 0);
     let mut s = no_lead(p);
-    let mut k = 0;
-    while k < n {
+    for k in 0..n {
         let b = ring::edge_end(ps, n, k);
         s = lead_between(p, a, b, s);
         a = b;
-        k += 1;
     }
     reached(s)
 }

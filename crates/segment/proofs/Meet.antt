@@ -1,6 +1,6 @@
 -- Two segments and their four exact turns, over places: whole numbers, so no sign is needed. Assumes nothing.
 use mathlib.Core.Path.{◌≡◌, sym, ◌∙◌, subst}
-use Prim.Native.Nat.{ℕ, ◌+◌, ◌-◌, ◌*◌, ◌<◌}
+use Prim.Native.Nat.{ℕ, ◌+◌, ◌*◌, ◌<◌}
 use native.Mathlib.Nat.{mul-add, add-mul, mul_assoc, mul_comm, mul_left_comm, add_assoc, add_comm, add_left_comm}
 use native.Mathlib.Omega.{arith}
 use Rattle.turn.specs.Turns.{Place, left_places, right_places}

@@ -5,7 +5,7 @@ use lib.Ieee.{Float, lt, le, eq}
 use Rattle.math.specs.Number.{fmin, fmax}
 use Rattle.plane.specs.declared.PlanarPoint.{PlanarPoint}
 use Rattle.segment.specs.Segments.{within_box}
-use Rattle.segment.specs.Boxes.{greater, lesser, beside, boxes_apart, Within}
+use Rattle.segment.specs.Boxes.{boxes_apart, Within}
 use Rattle.math.proofs.Order.{past, nan_under, high_too}
 
 -- ---- numbers that lie apart
@@ -129,24 +129,3 @@ module _ (a1 a2 b1 b2 : PlanarPoint) where
         go false false true s w x y z t = south (below _ _ _ _ _ _ y g.north k.north e.south f.south)
         go false false false true w x y z t = north (below _ _ _ _ _ _ z e.north f.north g.south k.south)
         go false false false false w x y z t = absurd (false≢true t)
-
--- ---- what the code asks
-
-module _ (l h p q : PlanarPoint) (x : Float) (e : x ≡ cond (lt q.east p.east) p.east q.east) where
-  pub beside_west : lt x l.east ≡ true → true ≡ beside l h p q
-  unfolding beside greater
-  beside_west t = rw (← e, t) refl
-
-  module _ (s : lt x l.east ≡ false) (y : Float) (f : y ≡ cond (lt p.east q.east) p.east q.east) where
-    pub beside_east : lt h.east y ≡ true → true ≡ beside l h p q
-    unfolding beside greater lesser
-    beside_east t = rw (← e, s, ← f, t) refl
-
-    module _ (u : lt h.east y ≡ false) (z : Float) (g : z ≡ cond (lt q.north p.north) p.north q.north) where
-      pub beside_south : lt z l.north ≡ true → true ≡ beside l h p q
-      unfolding beside greater lesser
-      beside_south t = rw (← e, s, ← f, u, ← g, t) refl
-
-      pub beside_north : lt z l.north ≡ false → (w : Float) → w ≡ cond (lt p.north q.north) p.north q.north → lt h.north w ≡ beside l h p q
-      unfolding beside greater lesser
-      beside_north t w k = rw (← e, s, ← f, u, ← g, t, ← k) refl

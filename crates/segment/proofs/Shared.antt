@@ -9,7 +9,7 @@ use Rattle.hypotenuse.proofs.Order.{le_or_lt}
 use Rattle.turn.specs.Turns.{Place, left_places, right_places}
 use Rattle.turn.proofs.Laws.{back_left, back_right}
 use Rattle.segment.specs.Meeting.{Share}
-use Rattle.segment.proofs.Meet.{ring, Between, balanced, four_turns, touching, crossing}
+use Rattle.segment.proofs.Meet.{Between, balanced, four_turns, touching, crossing}
 
 -- ---- what the tests say
 

@@ -60,12 +60,12 @@ pub(crate) fn judged(state: &[u8]) -> Refusal
 pub(crate) fn answer(refusal: Refusal, taken: usize, written: usize) -> LwFed
     ensures { result ≡ Calls.fed_answer (Carries.carried refusal) taken written }
 {
-    let c = Carried::new(refusal);
+    let c = Carried::from(refusal);
     LwFed {
         refusal: c.question,
         first: c.first,
-        taken: taken,
-        written: written,
+        taken,
+        written,
     }
 }
 
@@ -93,7 +93,7 @@ pub(crate) fn heard(outcome: Outcome, written: usize) -> Refusal
 
 // The next bytes of the input: 20 and 21 of the state, then 20 where not even the first answer fits the output. A granted call takes the
 // whole block or writes something.
-pub fn fed<'a>(block: &'a [u8], state: &'a mut [u8], out: &'a mut [u8]) -> LwFed
+pub fn fed(block: &[u8], state: &mut [u8], out: &mut [u8]) -> LwFed
     ensures answered { result ≡ Calls.lw_feed block.now state.old out.old }
     ensures state { state.new ≡ Calls.lw_feed_state block.now state.old out.old }
     ensures written { out.new ≡ Calls.lw_feed_out block.now state.old out.old }
@@ -103,14 +103,13 @@ pub fn fed<'a>(block: &'a [u8], state: &'a mut [u8], out: &'a mut [u8]) -> LwFed
         let count = said(state);
         let f = job_lines::feed(block, &mut state[2..16387], count, out);
         say(state, f.count);
-        let outcome = f.outcome;
-        return answer(heard(outcome, f.used), f.taken, f.used);
+        return answer(heard(f.outcome, f.used), f.taken, f.used);
     }
     answer(refusal, 0, 0)
 }
 
 // The end of the input: 20 and 21 of the state, then 20 of the output. Once it is granted, nothing is held.
-pub fn finished<'a>(state: &'a mut [u8], out: &'a mut [u8]) -> LwFed
+pub fn finished(state: &mut [u8], out: &mut [u8]) -> LwFed
     ensures answered { result ≡ Calls.lw_finish state.old out.old }
     ensures state { state.new ≡ Calls.lw_finish_state state.old out.old }
     ensures written { out.new ≡ Calls.lw_finish_out state.old out.old }
@@ -119,8 +118,7 @@ pub fn finished<'a>(state: &'a mut [u8], out: &'a mut [u8]) -> LwFed
     if refusal.granted() {
         let count = said(state);
         let last = job_lines::finish(&state[2..16387], count, out);
-        let outcome = last.outcome;
-        let ended = outcome.refusal();
+        let ended = last.outcome.refusal();
         if ended.granted() {
             say(state, 0);
             return answer(ended, 0, last.used);

@@ -6,12 +6,12 @@ mod cases;
 mod shown;
 mod stream;
 
-fn main() {
-    cases::writes();
-    cases::single();
-    cases::given();
-    cases::read();
-    stream::streams();
-    stream::jobs();
-    stream::answers();
+fn main(rt: HostRuntime) {
+    cases::writes(&rt);
+    cases::single(&rt);
+    cases::given(&rt);
+    cases::read(&rt);
+    stream::streams(&rt);
+    stream::jobs(&rt);
+    stream::answers(&rt);
 }

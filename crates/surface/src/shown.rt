@@ -2,92 +2,78 @@
 use error::{Carried, Refusal};
 use outline::NewOutline;
 use region::NewRegion;
-
-pub(crate) fn whole(n: usize) {
-    io::write_all(1, b" ");
-    io::print_decimal(1, n as u64);
-}
-
-pub(crate) fn wholes(ns: &[usize]) {
-    let mut k = 0;
-    while k < ns.len() {
-        whole(ns[k]);
-        k += 1;
-    }
-}
+use std::{fmt, io};
 
 // A number by its bits; a NaN by its name.
-pub(crate) fn number(x: f64) {
-    io::write_all(1, b" ");
-    if x != x {
-        io::write_all(1, b"nan");
-        return;
-    }
-    io::print_hex(1, f64::to_bits(x), 16);
-}
+#[derive(Clone, Copy)]
+pub(crate) struct Bits(pub f64);
 
-pub(crate) fn numbers(ps: &[f64]) {
-    let mut k = 0;
-    while k < ps.len() {
-        number(ps[k]);
-        k += 1;
-    }
-}
-
-// The numbers from `from` on, up to `to`; none where there are not so many.
-fn part(ps: &[f64], from: usize, to: usize) -> &[f64] {
-    if to <= ps.len() {
-        if from <= to {
-            return &ps[from..to];
+impl fmt::Display for Bits {
+    fn fmt<W: fmt::Write>(&self, f: &mut fmt::Formatter<W>) -> fmt::Result {
+        let x = self.0;
+        if x != x {
+            return write!(f, "nan");
         }
+        write!(f, "{:016x}", x.to_bits())
     }
-    &ps[..0]
 }
 
-pub(crate) fn first_eight(ps: &[f64]) {
-    numbers(part(ps, 0, 8));
+// Whole numbers, each after a blank.
+#[derive(Clone, Copy)]
+pub(crate) struct Wholes<'a>(pub &'a [usize]);
+
+impl fmt::Display for Wholes<'_> {
+    fn fmt<W: fmt::Write>(&self, f: &mut fmt::Formatter<W>) -> fmt::Result {
+        for n in self.0 {
+            write!(f, " {n}")?;
+        }
+        Ok(())
+    }
 }
 
-pub(crate) fn line_end() {
-    io::write_all(1, b"\n");
+// Numbers, each after a blank.
+#[derive(Clone, Copy)]
+pub(crate) struct Numbers<'a>(pub &'a [f64]);
+
+impl fmt::Display for Numbers<'_> {
+    fn fmt<W: fmt::Write>(&self, f: &mut fmt::Formatter<W>) -> fmt::Result {
+        for x in self.0 {
+            write!(f, " {}", Bits(*x))?;
+        }
+        Ok(())
+    }
 }
 
-// The case, the number, the ring and two whole numbers.
-pub(crate) fn refusal(name: &[u8], r: Refusal) {
-    io::write_all(1, name);
-    io::write_all(1, b":");
-    let c = Carried::new(r);
-    whole(c.question);
-    whole(c.ring);
-    whole(c.first);
-    whole(c.second);
+// A refusal: its number, the ring and two whole numbers.
+#[derive(Clone, Copy)]
+pub(crate) struct Told(pub Refusal);
+
+impl fmt::Display for Told {
+    fn fmt<W: fmt::Write>(&self, f: &mut fmt::Formatter<W>) -> fmt::Result {
+        let c = Carried::from(self.0);
+        write!(f, "{} {} {} {}", c.question, c.ring, c.first, c.second)
+    }
 }
 
 // The outline's count, and its first eight numbers.
-pub(crate) fn outline(name: &[u8], made: NewOutline) {
-    let of_outline = made.refusal;
-    let shape = made.shape;
-    let points = shape.points;
-    refusal(name, of_outline);
-    whole(shape.count);
-    first_eight(&points);
-    line_end();
+pub(crate) fn outline(rt: &impl Print, name: &str, made: &NewOutline) {
+    let told = Told(made.refusal);
+    let count = made.shape.count;
+    let numbers = Numbers(&made.shape.points[..8]);
+    let _ = println!(rt; "{name}: {told} {count}{numbers}");
 }
 
 // The counts of the outer ring, of the holes and of the first two of them, and the first eight numbers of each.
-pub(crate) fn region(name: &[u8], made: NewRegion) {
-    let of_region = made.refusal;
-    let shape = made.shape;
-    let outer = shape.outer;
-    let ring = outer.points;
-    let points = shape.points;
-    let counts = shape.counts;
-    refusal(name, of_region);
-    whole(outer.count);
-    whole(shape.holes);
-    whole(counts[0]);
-    whole(counts[1]);
-    first_eight(&ring);
-    first_eight(&points);
-    line_end();
+pub(crate) fn region(rt: &impl Print, name: &str, made: &NewRegion) {
+    let told = Told(made.refusal);
+    let counts = [
+        made.shape.outer.count,
+        made.shape.holes,
+        made.shape.counts[0],
+        made.shape.counts[1],
+    ];
+    let wholes = Wholes(&counts);
+    let ring = Numbers(&made.shape.outer.points[..8]);
+    let holes = Numbers(&made.shape.points[..8]);
+    let _ = println!(rt; "{name}: {told}{wholes}{ring}{holes}");
 }

@@ -1,4 +1,5 @@
 // What the functions for C answer: a refusal's number and what it carries as plain numbers, beside the value.
+// Stays: C interface: the structs and the numbers in place of enums are what C reads.
 #![tactic(auto)]
 
 ghost use Rattle.std.specs.Prelude.{◌≡◌};
@@ -143,12 +144,14 @@ pub struct LwLine {
 }
 
 // How many vertices so many numbers are; an odd count is none.
+#[tactic(auto, unfolding(crate::specs::Told::vertices))]
 pub fn vertices(numbers: usize) -> usize
     ensures { result ≡ Told.vertices numbers }
 {
     base::choose(numbers % 2 == 0, numbers / 2, 0)
 }
 
+#[tactic(auto, unfolding(crate::specs::Told::place_number))]
 pub(crate) fn place_number(c: Containment) -> usize
     ensures { result ≡ Told.place_number c }
 {
@@ -159,24 +162,26 @@ pub(crate) fn place_number(c: Containment) -> usize
     }
 }
 
+#[tactic(auto, unfolding(crate::specs::Told::outline_answer))]
 pub fn outline(refusal: Refusal, count: usize) -> LwOutline
     ensures { result ≡ Told.outline_answer (Carries.carried refusal) count }
 {
-    let c = Carried::new(refusal);
+    let c = Carried::from(refusal);
     LwOutline {
         refusal: c.question,
         ring: c.ring,
         first: c.first,
         second: c.second,
         value: c.value,
-        count: count,
+        count,
     }
 }
 
+#[tactic(auto, unfolding(crate::specs::Told::place_answer))]
 pub fn place(refusal: Refusal, p: Containment) -> LwPlace
     ensures { result ≡ Told.place_answer (Carries.carried refusal) p }
 {
-    let c = Carried::new(refusal);
+    let c = Carried::from(refusal);
     LwPlace {
         refusal: c.question,
         first: c.first,
@@ -184,39 +189,43 @@ pub fn place(refusal: Refusal, p: Containment) -> LwPlace
     }
 }
 
+#[tactic(auto, unfolding(crate::specs::Told::nearest_answer))]
 pub fn nearest(refusal: Refusal, distance: f64, point: PlanarPoint) -> LwNearest
     ensures { result ≡ Told.nearest_answer (Carries.carried refusal) distance point }
 {
-    let c = Carried::new(refusal);
+    let c = Carried::from(refusal);
     LwNearest {
         refusal: c.question,
         first: c.first,
-        distance: distance,
+        distance,
         east: point.east,
         north: point.north,
     }
 }
 
+#[tactic(auto, unfolding(crate::specs::Told::area_answer))]
 pub fn area(refusal: Refusal, value: f64) -> LwArea
     ensures { result ≡ Told.area_answer (Carries.carried refusal) value }
 {
-    let c = Carried::new(refusal);
+    let c = Carried::from(refusal);
     LwArea {
         refusal: c.question,
         area: value,
     }
 }
 
+#[tactic(auto, unfolding(crate::specs::Told::length_answer))]
 pub fn length(refusal: Refusal, value: f64) -> LwLength
     ensures { result ≡ Told.length_answer (Carries.carried refusal) value }
 {
-    let c = Carried::new(refusal);
+    let c = Carried::from(refusal);
     LwLength {
         refusal: c.question,
         length: value,
     }
 }
 
+#[tactic(auto, unfolding(crate::specs::Told::meeting_answer))]
 pub fn meeting(
     refusal: Refusal,
     meets: bool,
@@ -226,20 +235,21 @@ pub fn meeting(
 ) -> LwMeeting
     ensures { result ≡ Told.meeting_answer (Carries.carried refusal) meets outer inner swapped }
 {
-    let c = Carried::new(refusal);
+    let c = Carried::from(refusal);
     LwMeeting {
         refusal: c.question,
-        meets: base::choose(meets, 1, 0),
-        outer: outer,
-        inner: inner,
-        swapped: base::choose(swapped, 1, 0),
+        meets: usize::from(meets),
+        outer,
+        inner,
+        swapped: usize::from(swapped),
     }
 }
 
+#[tactic(auto, unfolding(crate::specs::Told::point_answer))]
 pub fn point(refusal: Refusal, p: PlanarPoint) -> LwPoint
     ensures { result ≡ Told.point_answer (Carries.carried refusal) p }
 {
-    let c = Carried::new(refusal);
+    let c = Carried::from(refusal);
     LwPoint {
         refusal: c.question,
         east: p.east,
@@ -247,10 +257,11 @@ pub fn point(refusal: Refusal, p: PlanarPoint) -> LwPoint
     }
 }
 
+#[tactic(auto, unfolding(crate::specs::Told::edge_answer))]
 pub fn edge(refusal: Refusal, start: PlanarPoint, end: PlanarPoint) -> LwEdge
     ensures { result ≡ Told.edge_answer (Carries.carried refusal) start end }
 {
-    let c = Carried::new(refusal);
+    let c = Carried::from(refusal);
     LwEdge {
         refusal: c.question,
         start_east: start.east,
@@ -260,6 +271,7 @@ pub fn edge(refusal: Refusal, start: PlanarPoint, end: PlanarPoint) -> LwEdge
     }
 }
 
+#[tactic(auto, unfolding(crate::specs::Told::offset_answer))]
 pub fn offset(
     refusal: Refusal,
     vertices: usize,
@@ -269,7 +281,7 @@ pub fn offset(
 ) -> LwOffset
     ensures { result ≡ Told.offset_answer (Carries.carried refusal) vertices collapses divides joins }
 {
-    let c = Carried::new(refusal);
+    let c = Carried::from(refusal);
     LwOffset {
         refusal: c.question,
         ring: c.ring,
@@ -277,27 +289,29 @@ pub fn offset(
         second: c.second,
         value: c.value,
         count: vertices,
-        collapses: collapses,
-        divides: divides,
-        joins: joins,
+        collapses,
+        divides,
+        joins,
     }
 }
 
+#[tactic(auto, unfolding(crate::specs::Told::region_answer))]
 pub fn region(refusal: Refusal, rings: usize, counts: [usize; 9]) -> LwRegion
     ensures { result ≡ Told.region_answer (Carries.carried refusal) rings counts }
 {
-    let c = Carried::new(refusal);
+    let c = Carried::from(refusal);
     LwRegion {
         refusal: c.question,
         ring: c.ring,
         first: c.first,
         second: c.second,
         value: c.value,
-        rings: rings,
-        counts: counts,
+        rings,
+        counts,
     }
 }
 
+#[tactic(auto, unfolding(crate::specs::Told::inset_answer))]
 pub fn inset(
     refusal: Refusal,
     rings: usize,
@@ -308,25 +322,26 @@ pub fn inset(
 ) -> LwRegionOffset
     ensures { result ≡ Told.inset_answer (Carries.carried refusal) rings counts collapses divides joins }
 {
-    let c = Carried::new(refusal);
+    let c = Carried::from(refusal);
     LwRegionOffset {
         refusal: c.question,
         ring: c.ring,
         first: c.first,
         second: c.second,
         value: c.value,
-        rings: rings,
-        counts: counts,
-        collapses: collapses,
-        divides: divides,
-        joins: joins,
+        rings,
+        counts,
+        collapses,
+        divides,
+        joins,
     }
 }
 
+#[tactic(auto, unfolding(crate::specs::Told::line_answer))]
 pub fn line(refusal: Refusal, written: usize) -> LwLine
     ensures { result ≡ Told.line_answer refusal (Carries.carried refusal) written }
 {
-    let c = Carried::new(refusal);
+    let c = Carried::from(refusal);
     LwLine {
         refusal: c.question,
         count: base::choose(refusal.granted(), written, c.first),

@@ -1,9 +1,9 @@
 -- The walk over the slots from the top: what it keeps, and what it tells where it ends. Assumes nothing.
 use mathlib.Core.Path.{◌≡◌, refl, sym, ap, ◌∙◌, subst}
 use mathlib.Core.Logic.{◌⊎◌, inl, inr}
-use mathlib.Core.Bool.{Bool, true, false, cond, ◌&&◌}
-use Prim.Native.Nat.{ℕ, zero, suc, ◌+◌, ◌-◌, ◌*◌, ◌^◌, ◌≤◌, ◌<◌}
-use native.Mathlib.Nat.{le_trans, mul-le-mul_right, mul-lt-mul_of_pos_right}
+use mathlib.Core.Bool.{Bool, true, false}
+use Prim.Native.Nat.{ℕ, zero, suc, ◌+◌, ◌-◌, ◌*◌, ◌^◌, ◌≤◌, ◌<◌, min, max}
+use native.Mathlib.Nat.{mul-le-mul_right, mul-lt-mul_of_pos_right}
 use native.Mathlib.Omega.{arith}
 use lib.Dec.{T, ltb}
 use lib.Pow.{pow_pos}
@@ -48,23 +48,20 @@ lower U c l S T d P Q least e q s h =
     gather : (U c l T d P x least : ℕ) → (x + least) * P ≡ (l * 2 ^ 27 + d) * P → U ≡ c + l * (2 ^ 27 * P) + (T + d * P) → U ≡ c + least * P + x * P + T
     gather U c l T d P x least z w = simp poly (omega (arith, simp poly at z, simp poly at w))
 
-least_is : (l r : ℕ) (t : Bool) → ltb l r ≡ t → (cond t l r ≤ l) × ((cond t l r ≤ r) × ((l - cond t l r ≡ 0) ⊎ (r - cond t l r ≡ 0)))
-least_is l r true e = let h = ltb-true l r e in (omega arith, (omega arith, inl (omega arith)))
-least_is l r false e = let h = ltb-false l r e in (omega arith, (omega arith, inr (omega arith)))
+least_is : (x y m : ℕ) → m ≡ min x y → (t : Bool) → ltb x y ≡ t → (m ≤ x) × ((m ≤ y) × ((x - m ≡ 0) ⊎ (y - m ≡ 0)))
+least_is x y m e true h = let l = ltb-true x y h in (omega arith, (omega arith, inl (omega arith)))
+least_is x y m e false h = let l = ltb-false x y h in (omega arith, (omega arith, inr (omega arith)))
 
-pub least_le : (l r m : ℕ) → m ≡ cond (ltb l r) l r → (m ≤ l) × (m ≤ r)
-least_le l r m e = (subst (λ (x : ℕ). x ≤ l) (sym e) (least_is l r (ltb l r) refl).0, subst (λ (x : ℕ). x ≤ r) (sym e) (least_is l r (ltb l r) refl).1.0)
-
-pub walk_step : (f g : ℕ → ℕ) (from k l r x y m : ℕ) → 0 < k → Walk f g from k l r → x ≡ l * 2 ^ 27 + f (k - 1) → y ≡ r * 2 ^ 27 + g (k - 1) → m ≡ cond (ltb x y) x y → Walk f g from (k - 1) (x - m) (y - m)
+pub walk_step : (f g : ℕ → ℕ) (from k l r x y m : ℕ) → 0 < k → Walk f g from k l r → x ≡ l * 2 ^ 27 + f (k - 1) → y ≡ r * 2 ^ 27 + g (k - 1) → m ≡ min x y → Walk f g from (k - 1) (x - m) (y - m)
 walk_step f g from k l r x y m h w p q e = record {
   common = w.common + m * 2 ^ (27 * (k - 1));
   left = subst (λ (z : ℕ). sum f from ≡ w.common + m * 2 ^ (27 * (k - 1)) + (z - m) * 2 ^ (27 * (k - 1)) + sum f (k - 1)) (sym p)
       (lower (sum f from) w.common l (sum f k) (sum f (k - 1)) (f (k - 1)) (2 ^ (27 * (k - 1))) (2 ^ (27 * k)) m w.left (down f k h).0 (down f k h).1
-      (subst (λ (z : ℕ). m ≤ z) p (least_le x y m e).0));
+      (subst (λ (z : ℕ). m ≤ z) p (least_is x y m e (ltb x y) refl).0));
   right = subst (λ (z : ℕ). sum g from ≡ w.common + m * 2 ^ (27 * (k - 1)) + (z - m) * 2 ^ (27 * (k - 1)) + sum g (k - 1)) (sym q)
       (lower (sum g from) w.common r (sum g k) (sum g (k - 1)) (g (k - 1)) (2 ^ (27 * (k - 1))) (2 ^ (27 * k)) m w.right (down g k h).0 (down g k h).1
-      (subst (λ (z : ℕ). m ≤ z) q (least_le x y m e).1));
-  one = subst (λ (z : ℕ). (x - z ≡ 0) ⊎ (y - z ≡ 0)) (sym e) (least_is x y (ltb x y) refl).1.1;
+      (subst (λ (z : ℕ). m ≤ z) q (least_is x y m e (ltb x y) refl).1.0));
+  one = (least_is x y m e (ltb x y) refl).1.1;
 }
 
 -- ---- where it ends
@@ -97,39 +94,15 @@ flip {l = l} {r = r} w = record { common = w.common; left = w.right; right = w.l
     other (inl h) = inr h
     other (inr h) = inl h
 
-zero_other : {l r : ℕ} → (l ≡ 0) ⊎ (r ≡ 0) → 2 ^ 32 ≤ l → r ≡ 0
-zero_other (inl h) a = absurd (omega arith)
-zero_other (inr h) a = h
+-- the slots from here on have no digit
+pub walk_over : (f g : ℕ → ℕ) (from to k l r : ℕ) → Walk f g from k l r → ((j : ℕ) → j < to → f j ≡ 0) → ((j : ℕ) → j < to → g j ≡ 0) → k ≤ to → by_sums l r ≡ by_sums (sum f from) (sum g from)
+walk_over f g from to k l r w ef eg h = at_end f g from k l r w (sum_none 27 f to ef k h) (sum_none 27 g to eg k h)
 
--- the walk stops at any limit that the slots below do not reach
-pub walk_end : (limit : ℕ) (f g : ℕ → ℕ) (from to k l r : ℕ) → Walk f g from k l r
-    → ((j : ℕ) → j < to → f j ≡ 0) → ((j : ℕ) → j < to → g j ≡ 0) → ((j : ℕ) → f j ≤ 18 * 2 ^ 54) → ((j : ℕ) → g j ≤ 18 * 2 ^ 54)
-    → (ltb to k && (ltb l limit && ltb r limit)) ≡ false → 2 ^ 32 ≤ limit → by_sums l r ≡ by_sums (sum f from) (sum g from)
-walk_end limit f g from to k l r w ef eg bf bg h enough = go (ltb to k) (ltb l limit) (ltb r limit) refl refl refl h
-  where
-    go : (a b c : Bool) → ltb to k ≡ a → ltb l limit ≡ b → ltb r limit ≡ c → (a && (b && c)) ≡ false → by_sums l r ≡ by_sums (sum f from) (sum g from)
-    go false b c p q s h = at_end f g from k l r w (sum_none 27 f to ef k (ltb-false to k p)) (sum_none 27 g to eg k (ltb-false to k p))
-    go true false c p q s h =
-        let big : 2 ^ 32 ≤ l = le_trans enough (ltb-false l limit q) in
-        let z = zero_other w.one big in
-        tells_left l r (omega arith) ∙ sym (tells_left (sum f from) (sum g from) (leads f g from k l r w bg big z))
-    go true true false p q s h =
-        let big : 2 ^ 32 ≤ r = le_trans enough (ltb-false r limit s) in
-        let z = zero_other (flip w).one big in
-        tells_right l r (omega arith) ∙ sym (tells_right (sum f from) (sum g from) (leads g f from k r l (flip w) bf big z))
-    go true true true p q s h = absurd (subst T h tt)
-
--- ---- the walk's test
-pub record Going (limit to k l r : ℕ) : Type 0 where
-  pub more : to < k
-  pub left_lt : l < limit
-  pub right_lt : r < limit
-
-pub going : (limit to k l r : ℕ) → (ltb to k && (ltb l limit && ltb r limit)) ≡ true → Going limit to k l r
-going limit to k l r h = go (ltb to k) (ltb l limit) (ltb r limit) refl refl refl h
-  where
-    go : (a b c : Bool) → ltb to k ≡ a → ltb l limit ≡ b → ltb r limit ≡ c → (a && (b && c)) ≡ true → Going limit to k l r
-    go true true true p q s h = record { more = ltb-true to k p; left_lt = ltb-true l limit q; right_lt = ltb-true r limit s }
-    go true true false p q s h = absurd (subst T (sym h) tt)
-    go true false c p q s h = absurd (subst T (sym h) tt)
-    go false b c p q s h = absurd (subst T (sym h) tt)
+-- the walk may stop at a lead that the slots below do not reach
+pub walk_led : (f g : ℕ → ℕ) (from k l r : ℕ) → Walk f g from k l r → ((j : ℕ) → f j ≤ 18 * 2 ^ 54) → ((j : ℕ) → g j ≤ 18 * 2 ^ 54)
+    → 2 ^ 32 ≤ max l r → by_sums l r ≡ by_sums (sum f from) (sum g from)
+walk_led f g from k l r w bf bg h =
+    elim w.one [
+      | inl z ↦ tells_right l r (omega arith) ∙ sym (tells_right (sum f from) (sum g from) (leads g f from k r l (flip w) bf (omega arith) z))
+      | inr z ↦ tells_left l r (omega arith) ∙ sym (tells_left (sum f from) (sum g from) (leads f g from k l r w bg (omega arith) z))
+    ]

@@ -4,6 +4,7 @@ use Rattle.std.specs.Bool.{beq}
 use Rattle.math.specs.Digits.{digit_sum}
 use Rattle.turn.specs.declared.Turn.{Turn}
 use Rattle.turn.specs.declared.exact.Limbs.{Limbs}
+use Rattle.turn.specs.declared.exact.Spot.{Spot}
 use Rattle.turn.specs.declared.exact.Product.{Product}
 use Rattle.turn.specs.declared.exact.Six.{Six}
 use Rattle.turn.specs.Turns.{place_of, by_sums}
@@ -20,6 +21,10 @@ pub record Small (l : Limbs) : Type 0 where
   pub low_lt : l.low < 2 ^ 27
   pub mid_lt : l.mid < 2 ^ 27
   pub high_lt : l.high < 2 ^ 27
+
+pub record SmallSpot (p : Spot) : Type 0 where
+  pub east_small : Small p.east
+  pub north_small : Small p.north
 
 pub record LimbsOf (back : Bool) (u : ℕ) (l : Limbs) : Type 0 where
   pub back_is : l.back ≡ back

@@ -1,12 +1,11 @@
 -- The filter of the turn: two rounded products that are far enough apart tell it. What it tells is the exact turn (`quick` of
 -- lib.rt); where it tells nothing, whole numbers are asked. Definitions only.
-use Rattle.std.specs.Prelude.{◌≡◌, Bool, true, ◌&&◌, ◌||◌, Float}
+use Rattle.std.specs.Prelude.{◌≡◌, Option, None, Some, Bool, true, ◌&&◌, ◌||◌, Float}
 use Rattle.std.specs.Float.{binary64}
 use Rattle.std.specs.Float.Ieee.{lt, eq, neg, of_bits}
 use Rattle.math.specs.Number.{mul, sub}
 use Rattle.plane.specs.declared.PlanarPoint.{PlanarPoint}
 use Rattle.turn.specs.declared.Turn.{Turn}
-use Rattle.turn.specs.declared.Turn.TheVariants.{Left, Right, Straight, Unknown}
 use Rattle.turn.specs.Turns.{DoublePoint}
 
 -- 2 ^ 400
@@ -58,8 +57,6 @@ pub record Ready (a b c : PlanarPoint) : Type 0 where
   pub all_inside : inside_points a b c ≡ true
 
 -- what the filter told: nothing, or the turn
-abbrev pub Settled : Turn → Turn → Type 0
-Settled Unknown u = Unit
-Settled Left u = Left ≡ u
-Settled Right u = Right ≡ u
-Settled Straight u = Straight ≡ u
+abbrev pub Settled : Option Turn → Turn → Type 0
+Settled None u = Unit
+Settled (Some t) u = t ≡ u

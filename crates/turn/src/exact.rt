@@ -2,7 +2,7 @@
 ghost use Rattle.std.specs.Prelude.{◌≡◌, true, false, cond, ◌+◌, ◌-◌, ◌*◌, ◌/◌, ◌%◌, ◌^◌, ◌≤◌, ◌<◌, min, max};
 ghost use Rattle.math.specs.Number.{finite};
 ghost use Rattle.turn.specs.Turns;
-ghost use Rattle.turn.specs.Digits.{LimbsOf, Small, Narrow, ProductOf, Flat, Over, Under, Empty, Gathered, Told, Placed, units};
+ghost use Rattle.turn.specs.Digits.{LimbsOf, Small, SmallSpot, Narrow, ProductOf, Flat, Over, Under, Empty, Gathered, Told, Placed, units};
 ghost use Rattle.turn.specs.Digits.{sum, digit_of, goes, side_digit, side_total};
 
 use crate::Turn;
@@ -28,6 +28,13 @@ pub struct Limbs {
     high: u64,
 }
 
+// A point by the digits of its two numbers.
+#[derive(Clone, Copy)]
+pub struct Spot {
+    east: Limbs,
+    north: Limbs,
+}
+
 // Five digits from the slot on; they count to the right where `back`.
 #[derive(Clone, Copy)]
 pub struct Product {
@@ -40,6 +47,7 @@ pub struct Product {
     de: u64,
 }
 
+// Stays: no plainer, since the definitions name each of the six.
 #[derive(Clone, Copy)]
 pub struct Six {
     pa: Product,
@@ -51,6 +59,7 @@ pub struct Six {
 }
 
 // The digits of the number m * 2^e, which `back` says is negative.
+#[tactic(auto, using(crate::proofs::Spread::first_fits, crate::proofs::Spread::second_fits, crate::proofs::Spread::sum_fits))]
 fn spread(back: bool, m: u64, e: u64) -> Limbs
     requires m_bound { m < 2 ^ 53 }
     requires e_bound { e ≤ 2045 }
@@ -60,7 +69,7 @@ fn spread(back: bool, m: u64, e: u64) -> Limbs
     let first = m % BASE * unit;
     let second = (m >> 27) * unit + (first >> 27);
     Limbs {
-        back: back,
+        back,
         slot: e / 27,
         low: first % BASE,
         mid: second % BASE,
@@ -80,6 +89,7 @@ fn limbs_of(x: f64) -> Limbs
 }
 
 // The product of two digits.
+#[tactic(auto, using(crate::proofs::Products::small_product))]
 fn times(a: u64, b: u64) -> u64
     requires a_bound { a < 2 ^ 27 }
     requires b_bound { b < 2 ^ 27 }
@@ -107,18 +117,23 @@ fn multiply(turned: bool, a: Limbs, b: Limbs) -> Product
 }
 
 // The digit of a product at the slot k.
+#[tactic(auto, using(crate::proofs::Products::narrow_digit), unfolding(crate::specs::Digits::digit_of))]
 fn digit(p: Product, k: u64) -> u64
     requires { Narrow p }
     ensures value { result ≡ digit_of p k }
     ensures upper_bound { result ≤ 3 * 2 ^ 54 }
 {
-    let upper = bits::pick(k == p.slot + 3, p.dd, bits::pick(k == p.slot + 4, p.de, 0));
-    let middle = bits::pick(
+    let upper = base::choose(
+        k == p.slot + 3,
+        p.dd,
+        base::choose(k == p.slot + 4, p.de, 0),
+    );
+    let middle = base::choose(
         k == p.slot + 1,
         p.db,
-        bits::pick(k == p.slot + 2, p.dc, upper),
+        base::choose(k == p.slot + 2, p.dc, upper),
     );
-    bits::pick(k == p.slot, p.da, middle)
+    base::choose(k == p.slot, p.da, middle)
 }
 
 // What a product counts at the slot k, to the right where `right`, else to the left.
@@ -131,6 +146,7 @@ fn count(right: bool, p: Product, k: u64) -> u64
 }
 
 // What the products count at the slot k, to the right where `right`, else to the left.
+#[tactic(auto, using(crate::proofs::Products::same_six, crate::proofs::Products::six), unfolding(crate::specs::Digits::side_digit))]
 fn tally(right: bool, s: Six, k: u64) -> u64
     requires { Flat s }
     ensures value { result ≡ side_digit right s k }
@@ -145,6 +161,7 @@ fn tally(right: bool, s: Six, k: u64) -> u64
 }
 
 // A slot below which a product has no digit: its own, or 200 where it is 0. All slots are below 155.
+#[tactic(auto, using(crate::proofs::Products::no_digits, crate::proofs::Products::below), unfolding(crate::specs::Digits::digit_of))]
 fn floor(p: Product) -> u64
     requires { Narrow p }
     ensures { Under result p }
@@ -156,25 +173,13 @@ fn floor(p: Product) -> u64
     }
 }
 
-fn larger(a: u64, b: u64) -> u64
-    ensures { result ≡ max a b }
-{
-    if a < b { b } else { a }
-}
-
-fn lesser(a: u64, b: u64) -> u64
-    ensures { result ≡ min a b }
-{
-    if a < b { a } else { b }
-}
-
 // A slot past all digits.
 fn top(s: Six) -> u64
     requires { Flat s }
     ensures { Over result s }
 {
-    let first = larger(larger(s.pa.slot, s.pb.slot), s.pc.slot);
-    larger(first, larger(larger(s.pd.slot, s.pe.slot), s.pf.slot)) + 5
+    let first = s.pa.slot.max(s.pb.slot).max(s.pc.slot);
+    first.max(s.pd.slot).max(s.pe.slot).max(s.pf.slot) + 5
 }
 
 // A slot below all digits.
@@ -182,8 +187,8 @@ fn bottom(s: Six) -> u64
     requires { Flat s }
     ensures { Empty result s }
 {
-    let first = lesser(lesser(floor(s.pa), floor(s.pb)), floor(s.pc));
-    lesser(first, lesser(lesser(floor(s.pd), floor(s.pe)), floor(s.pf)))
+    let first = floor(s.pa).min(floor(s.pb)).min(floor(s.pc));
+    first.min(floor(s.pd)).min(floor(s.pe)).min(floor(s.pf))
 }
 
 // Both sums from the top slot down, less what they have in common, until one leads by more than the slots below can make up for.
@@ -192,14 +197,15 @@ fn walk(s: Six, from: u64, to: u64) -> Turn
     requires empty { Empty to s }
     ensures { result ≡ Turns.by_sums (sum (side_digit false s) from) (sum (side_digit true s) from) }
 {
-    let mut k = from;
     let mut left = 0u64;
     let mut right = 0u64;
-    while (to < k) & ((left < LIMIT) & (right < LIMIT)) {
-        k -= 1;
+    for k in (to..from).rev() {
+        if left.max(right) >= LIMIT {
+            break;
+        }
         let l = left * BASE + tally(false, s, k);
         let r = right * BASE + tally(true, s, k);
-        let least = bits::pick(l < r, l, r);
+        let least = l.min(r);
         left = l - least;
         right = r - least;
     }
@@ -207,22 +213,19 @@ fn walk(s: Six, from: u64, to: u64) -> Turn
 }
 
 // The six products of the turn from a by b to c.
-fn gather(ae: Limbs, an: Limbs, be: Limbs, bn: Limbs, ce: Limbs, cn: Limbs) -> Six
-    requires small { Small ae }
-    requires small_2 { Small an }
-    requires small_3 { Small be }
-    requires small_4 { Small bn }
-    requires small_5 { Small ce }
-    requires small_6 { Small cn }
-    ensures { Gathered ae an be bn ce cn result }
+fn gather(a: Spot, b: Spot, c: Spot) -> Six
+    requires small { SmallSpot a }
+    requires small_2 { SmallSpot b }
+    requires small_3 { SmallSpot c }
+    ensures { Gathered a.east a.north b.east b.north c.east c.north result }
 {
     Six {
-        pa: multiply(false, ae, bn),
-        pb: multiply(false, be, cn),
-        pc: multiply(false, ce, an),
-        pd: multiply(true, an, be),
-        pe: multiply(true, bn, ce),
-        pf: multiply(true, cn, ae),
+        pa: multiply(false, a.east, b.north),
+        pb: multiply(false, b.east, c.north),
+        pc: multiply(false, c.east, a.north),
+        pd: multiply(true, a.north, b.east),
+        pe: multiply(true, b.north, c.east),
+        pf: multiply(true, c.north, a.east),
     }
 }
 
@@ -234,17 +237,18 @@ fn told(s: Six) -> Turn
     walk(s, top(s), bottom(s))
 }
 
-// The turn of six numbers by their digits.
-fn of_limbs(ae: Limbs, an: Limbs, be: Limbs, bn: Limbs, ce: Limbs, cn: Limbs) -> Turn
-    requires small { Small ae }
-    requires small_2 { Small an }
-    requires small_3 { Small be }
-    requires small_4 { Small bn }
-    requires small_5 { Small ce }
-    requires small_6 { Small cn }
-    ensures { result ≡ Turns.by_sums (side_total false ae an be bn ce cn) (side_total true ae an be bn ce cn) }
+// The digits of a point's two numbers.
+#[tactic(auto, using(crate::proofs::Places::east_finite, crate::proofs::Places::north_finite))]
+fn spot_of(p: PlanarPoint) -> Spot
+    requires { Turns.finite_point p ≡ true }
+    ensures east { Placed (Turns.place p.east) result.east.back (units result.east) }
+    ensures north { Placed (Turns.place p.north) result.north.back (units result.north) }
+    ensures small { SmallSpot result }
 {
-    told(gather(ae, an, be, bn, ce, cn))
+    Spot {
+        east: limbs_of(p.east),
+        north: limbs_of(p.north),
+    }
 }
 
 // The turn of six finite numbers.
@@ -254,11 +258,5 @@ pub(crate) fn of_finite(a: PlanarPoint, b: PlanarPoint, c: PlanarPoint) -> Turn
     requires c_value { Turns.finite_point c ≡ true }
     ensures { result ≡ Turns.by_sums (Turns.left_sum a b c) (Turns.right_sum a b c) }
 {
-    let ae = limbs_of(a.east);
-    let an = limbs_of(a.north);
-    let be = limbs_of(b.east);
-    let bn = limbs_of(b.north);
-    let ce = limbs_of(c.east);
-    let cn = limbs_of(c.north);
-    of_limbs(ae, an, be, bn, ce, cn)
+    told(gather(spot_of(a), spot_of(b), spot_of(c)))
 }

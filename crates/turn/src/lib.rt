@@ -9,11 +9,12 @@ ghost use Rattle.turn.specs.Turns.{DoublePoint};
 ghost use Rattle.turn.specs.Filters;
 
 use plane::PlanarPoint;
+use std::cmp::Ordering;
 
 mod exact;
 
 // On which side of the line from a to b the point c lies. Unknown: one of the numbers is not finite.
-#[derive(Clone, Copy)]
+#[derive(Clone, Copy, PartialEq, Eq)]
 pub enum Turn {
     Left,
     Right,
@@ -21,19 +22,19 @@ pub enum Turn {
     Unknown,
 }
 
+#[tactic(auto, unfolding(crate::specs::Turns::by_sums))]
 pub(crate) fn compare(left: u64, right: u64) -> Turn
     ensures { result ≡ Turns.by_sums left right }
 {
-    if right < left {
-        return Turn::Left;
+    match left.cmp(&right) {
+        Ordering::Greater => Turn::Left,
+        Ordering::Less => Turn::Right,
+        Ordering::Equal => Turn::Straight,
     }
-    if left < right {
-        return Turn::Right;
-    }
-    Turn::Straight
 }
 
-// x is below 2^400 in size.
+// x is below 2^400 in size. Stays: no plainer, since it has only its form in common with `math::finite`, and a bound of its own.
+#[tactic(auto, unfolding(crate::specs::Filters::inside))]
 fn inside(x: f64) -> bool
     ensures value { result ≡ Filters.inside x }
     ensures t { T (fits binary64 x) }
@@ -42,6 +43,7 @@ fn inside(x: f64) -> bool
     (x < top) & (-top < x)
 }
 
+#[tactic(auto, unfolding(crate::specs::Filters::inside_point))]
 fn inside_point(p: PlanarPoint) -> bool
     ensures value { result ≡ Filters.inside_point p }
     ensures double_point { DoublePoint p }
@@ -49,6 +51,7 @@ fn inside_point(p: PlanarPoint) -> bool
     inside(p.east) & inside(p.north)
 }
 
+#[tactic(auto, unfolding(crate::specs::Filters::inside_points))]
 fn inside_points(a: PlanarPoint, b: PlanarPoint, c: PlanarPoint) -> bool
     ensures value { result ≡ Filters.inside_points a b c }
     ensures double_point { DoublePoint a }
@@ -59,6 +62,7 @@ fn inside_points(a: PlanarPoint, b: PlanarPoint, c: PlanarPoint) -> bool
 }
 
 // The two products whose difference is the cross product.
+// Stays: Filters.right_product fixes it: the second is the first of a, c and b, but for the order of its factors.
 fn left_product(a: PlanarPoint, b: PlanarPoint, c: PlanarPoint) -> f64
     ensures { result ≡ Filters.left_product a b c }
 {
@@ -72,6 +76,7 @@ fn right_product(a: PlanarPoint, b: PlanarPoint, c: PlanarPoint) -> f64
 }
 
 // w is above 0 and larger than v by more than rounding can do: by a part of 2^-30, and above 2^-1000.
+#[tactic(auto, unfolding(crate::specs::Filters::leads))]
 fn leads(v: f64, w: f64) -> bool
     ensures { result ≡ Filters.leads v w }
 {
@@ -79,6 +84,7 @@ fn leads(v: f64, w: f64) -> bool
 }
 
 // v is less than w by more than rounding can do.
+#[tactic(auto, unfolding(crate::specs::Filters::surely_less))]
 fn surely_less(v: f64, w: f64) -> bool
     ensures { result ≡ Filters.surely_less v w }
 {
@@ -86,41 +92,44 @@ fn surely_less(v: f64, w: f64) -> bool
 }
 
 // Both products are 0, since numbers are equal.
+#[tactic(auto, unfolding(crate::specs::Filters::flat))]
 fn flat(a: PlanarPoint, b: PlanarPoint, c: PlanarPoint) -> bool
     ensures { result ≡ Filters.flat a b c }
 {
     ((b.east == a.east) | (c.north == a.north)) & ((b.north == a.north) | (c.east == a.east))
 }
 
-// The turn by rounded products of numbers that are not too large, where they tell it; else Unknown.
-fn by_products(a: PlanarPoint, b: PlanarPoint, c: PlanarPoint) -> Turn
+// The turn by rounded products of numbers that are not too large, where they tell it.
+#[tactic(auto, using(crate::proofs::Told::says_left, crate::proofs::Told::says_right, crate::proofs::Told::says_straight))]
+fn by_products(a: PlanarPoint, b: PlanarPoint, c: PlanarPoint) -> Option<Turn>
     requires { Filters.Ready a b c }
     ensures { Filters.Settled result (Turns.turn a b c) }
 {
     let left = left_product(a, b, c);
     let right = right_product(a, b, c);
     if surely_less(right, left) {
-        return Turn::Left;
+        return Some(Turn::Left);
     }
     if surely_less(left, right) {
-        return Turn::Right;
+        return Some(Turn::Right);
     }
     if flat(a, b, c) {
-        return Turn::Straight;
+        return Some(Turn::Straight);
     }
-    Turn::Unknown
+    None
 }
 
-// The filter: the turn where rounded products tell it, else Unknown.
-fn quick(a: PlanarPoint, b: PlanarPoint, c: PlanarPoint) -> Turn
+// The filter: the turn where rounded products tell it.
+fn quick(a: PlanarPoint, b: PlanarPoint, c: PlanarPoint) -> Option<Turn>
     ensures { Filters.Settled result (Turns.turn a b c) }
 {
     if inside_points(a, b, c) {
         return by_products(a, b, c);
     }
-    Turn::Unknown
+    None
 }
 
+#[tactic(auto, unfolding(crate::specs::Turns::finite_point))]
 fn finite_point(p: PlanarPoint) -> bool
     ensures { result ≡ Turns.finite_point p }
 {
@@ -128,6 +137,7 @@ fn finite_point(p: PlanarPoint) -> bool
 }
 
 // The turn by whole numbers.
+#[tactic(auto, unfolding(crate::specs::Turns::turn, crate::specs::Turns::finite_point))]
 fn slow(a: PlanarPoint, b: PlanarPoint, c: PlanarPoint) -> Turn
     ensures { result ≡ Turns.turn a b c }
 {
@@ -141,49 +151,35 @@ fn slow(a: PlanarPoint, b: PlanarPoint, c: PlanarPoint) -> Turn
 pub fn of_points(a: PlanarPoint, b: PlanarPoint, c: PlanarPoint) -> Turn
     ensures { result ≡ Turns.turn a b c }
 {
-    let t = quick(a, b, c);
-    match t {
-        Turn::Left => Turn::Left,
-        Turn::Right => Turn::Right,
-        Turn::Straight => Turn::Straight,
-        Turn::Unknown => slow(a, b, c),
+    match quick(a, b, c) {
+        Some(t) => t,
+        None => slow(a, b, c),
     }
 }
 
+#[tactic(auto, unfolding(crate::specs::Turns::is_left))]
 pub fn is_left(d: Turn) -> bool
     ensures { result ≡ Turns.is_left d }
 {
-    match d {
-        Turn::Left => true,
-        Turn::Right => false,
-        Turn::Straight => false,
-        Turn::Unknown => false,
-    }
+    d == Turn::Left
 }
 
+#[tactic(auto, unfolding(crate::specs::Turns::is_right))]
 pub fn is_right(d: Turn) -> bool
     ensures { result ≡ Turns.is_right d }
 {
-    match d {
-        Turn::Left => false,
-        Turn::Right => true,
-        Turn::Straight => false,
-        Turn::Unknown => false,
-    }
+    d == Turn::Right
 }
 
+#[tactic(auto, unfolding(crate::specs::Turns::is_straight))]
 pub fn is_straight(d: Turn) -> bool
     ensures { result ≡ Turns.is_straight d }
 {
-    match d {
-        Turn::Left => false,
-        Turn::Right => false,
-        Turn::Straight => true,
-        Turn::Unknown => false,
-    }
+    d == Turn::Straight
 }
 
 // Of two turns one is to the left and the other to the right.
+#[tactic(auto, unfolding(crate::specs::Turns::apart))]
 pub fn apart(d: Turn, e: Turn) -> bool
     ensures { result ≡ Turns.apart d e }
 {

@@ -1,5 +1,4 @@
 -- `format_fields::field_end` meets its contract. Assumes nothing.
-use Prim.Native.Nat.{◌-◌}
 use Rattle.format_fields.proofs.Ends.{begin, further, found, gone}
 use Rattle.format_fields.proofs.field_end.Goals as goal
 
@@ -18,4 +17,4 @@ loop-at-preserved c =
     further _ _ _ going c.if-line-at-eq44.false inv
 
 pub returns : goal.returns
-returns c = gone _ _ _ c.loop-at-test.false c.loop-at.invariant
+returns c = gone _ _ _ _ c.loop-at-test.false c.max.ensures c.loop-at.invariant

@@ -1,11 +1,7 @@
 -- `format_numerals::hex_run` meets its contract. Assumes nothing.
-use Prim.Native.Nat.{◌-◌, ◌≤◌}
 use Rattle.format.specs.Numerals.{is_hex, hex_value}
-use Rattle.format_numerals.specs.Readings.{RunTo}
+use Rattle.format_numerals.proofs.Runs.{RunTo}
 use Rattle.format_numerals.proofs.hex_run.Given as goal
 
 abbrev pub invariant-loop-k : goal.invariant-loop-k
-invariant-loop-k l = (l.k ≤ 16) × RunTo 16 is_hex hex_value l.field l.k l.sound l.value
-
-abbrev pub decreases-loop-k : goal.decreases-loop-k
-decreases-loop-k l = 16 - l.k
+invariant-loop-k l = RunTo 16 is_hex hex_value l.field l.k l.sound l.value

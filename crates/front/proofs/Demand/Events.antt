@@ -12,11 +12,11 @@ use borrow.Author.Tests.{ltb-true, ltb-false}
 use Rattle.plane.specs.declared.PlanarPoint.{PlanarPoint}
 use Rattle.front.specs.declared.Edge.{Edge}
 use Rattle.front.specs.declared.Front.{Front}
-use Rattle.front.specs.declared.Vertex.{Vertex}
-use Rattle.front.specs.declared.Vertex.TheVariants.{Moving}
+use Rattle.front.specs.declared.Moving.{Moving}
+use Rattle.std.specs.Prelude.{Option, Some}
 use Rattle.front.specs.Edges.{edge, set_start, remove, vertex, altered, anchor_at, anchor, then_remove, collapse}
 use Rattle.front.specs.Splitting.{free_step, free, one_ring, split_linked}
-use Rattle.front.specs.Links.{Links, bit, links, Out, Met}
+use Rattle.front.specs.Links.{bit, links, Out, Met}
 use Rattle.front.specs.Velocity.{Moves}
 use Rattle.front.proofs.Demand.Links
 use Rattle.front.proofs.Demand.KeepsRings
@@ -34,23 +34,23 @@ use Rattle.front.proofs.Demand.Tidying.{Tidied}
 abbrev pub Collapsed : List Edge → ℕ → ℕ → ℕ → Front → Type 0
 Collapsed f events bound x g = (g.stalled ≡ false) × Kept g.edges (suc events) bound × Out (links f) (links g.edges) x
 
-collapse_at : (f : List Edge) (at : Float) (events bound x s : ℕ) (t : Float) → Tidied f at events bound → (links f).live x ≡ 1 → (p v : PlanarPoint)
-    → Collapsed f events bound x (then_remove x (anchor_at f s t (Moving p v)))
+collapse_at : (f : List Edge) (at : Float) (events bound x s : ℕ) (t : Float) → Tidied f at events bound → (links f).live x ≡ 1 → (m : Moving)
+    → Collapsed f events bound x (then_remove x (anchor_at f s t (Some m)))
 unfolding then_remove anchor_at altered
-collapse_at f at events bound x s t k a p v =
-    let g : List Edge = set_start f s p t in
-    let z : Same (links f) (links g) = start_same f k.kept.size s p t in
+collapse_at f at events bound x s t k a m =
+    let g : List Edge = set_start f s m.at t in
+    let z : Same (links f) (links g) = start_same f k.kept.size s m.at t in
     let u : Out (links f) (links (remove g x)) x =
-    out_after (links f) (links g) (links (remove g x)) x z (out_of g events bound x (starts f events bound s p t k.kept) (z.lives x ∙ a)) in
-    (refl, record { held = KeepsRings.collapse 128 (links f) (links (remove g x)) events bound x k.kept.held k.clean a u; size = remove_length g x (start_length f s p t k.kept.size) }, u)
+    out_after (links f) (links g) (links (remove g x)) x z (out_of g events bound x (starts f events bound s m.at t k.kept) (z.lives x ∙ a)) in
+    (refl, record { held = KeepsRings.collapse 128 (links f) (links (remove g x)) events bound x k.kept.held k.clean a u; size = remove_length g x (start_length f s m.at t k.kept.size) }, u)
 
 pub collapse_law : (f : List Edge) (at : Float) (events bound x : ℕ) (t : Float) → Tidied f at events bound → Moves f → (links f).live x ≡ 1
     → Collapsed f events bound x (collapse f x t)
 unfolding collapse anchor
 collapse_law f at events bound x t k moves a =
     let n : ℕ = (edge f x).next in
-    let m : (p : PlanarPoint) × (v : PlanarPoint) × (vertex f n t ≡ Moving p v) = moves n (live_next (links f) k.kept.held.rs k.kept.held.rings x a) t in
-    subst (λ (v : Vertex). Collapsed f events bound x (then_remove x (anchor_at f n t v))) (sym m.2) (collapse_at f at events bound x n t k a m.0 m.1)
+    let m : (m : Moving) × (vertex f n t ≡ Some m) = moves n (live_next (links f) k.kept.held.rs k.kept.held.rings x a) t in
+    subst (λ (v : Option Moving). Collapsed f events bound x (then_remove x (anchor_at f n t v))) (sym m.1) (collapse_at f at events bound x n t k a m.0)
 
 -- ---- a split
 

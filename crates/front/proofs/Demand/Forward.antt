@@ -11,7 +11,6 @@ use borrow.Author.Tests.{ltb-true, ltb-false, lt-ltb, eq-eqb, ne_eqb, eqb-false}
 use lib.Ieee.{Float, nan, inf, fin, Format, binary64, lt, le, eq, neg, up, down, odd, units, round}
 use lib.Ieee.Fits.{up_pos}
 use Rattle.plane.specs.declared.PlanarPoint.{PlanarPoint}
-use Rattle.math.specs.Number
 use Rattle.math.specs.Number.{add, mul, div, zero_float, infinity, fmax, finite}
 use Rattle.math.proofs.Order.{le_nan}
 use Rattle.front.specs.Thresholds.{on_edge}

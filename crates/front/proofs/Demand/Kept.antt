@@ -18,7 +18,7 @@ use Rattle.front.specs.declared.Reach.{Reach}
 use Rattle.base.specs.Loop.{rounds}
 use Rattle.front.specs.Edges.{edge, set_start, remove, round_on, round_step, ring_len}
 use Rattle.front.specs.Splitting.{reach_on, reach_step, one_ring}
-use Rattle.front.specs.Links.{Links, links, along, Out}
+use Rattle.front.specs.Links.{links, along, Out}
 use Rattle.front.proofs.Demand.Links
 use Rattle.base.proofs.Laws.{stays_to, rounds_keep}
 use Rattle.base.proofs.Occurrences.{same_eq, same_ne, same_self, same_pos, occ, occ_nil, occ_cons}

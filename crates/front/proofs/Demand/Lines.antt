@@ -10,8 +10,8 @@ use lib.ListN.{length, set}
 use Rattle.plane.specs.declared.PlanarPoint.{PlanarPoint}
 use Rattle.front.specs.declared.Line.{Line}
 use Rattle.front.specs.declared.Edge.{Edge}
-use Rattle.front.specs.declared.Vertex.{Vertex}
-use Rattle.front.specs.declared.Vertex.TheVariants.{NoVertex, Moving}
+use Rattle.front.specs.declared.Moving.{Moving}
+use Rattle.std.specs.Prelude.{Option, None, Some}
 use Rattle.front.specs.declared.Tidy.{Tidy}
 use Rattle.front.specs.declared.Tidy.TheVariants.{Settled, SmallRing, Straight, Spike, Empty}
 use Rattle.front.specs.declared.Front.{Front}
@@ -65,10 +65,10 @@ module _ (P : ℕ → Line → Type 0) where
   unfolding remove unlinked
   remove_lined f x l = kill_lined _ _ (previous_lined _ _ _ (next_lined _ _ _ l))
 
-  anchor_lined : (f : List Edge) (s : ℕ) (t : Float) (v : Vertex) → Lined f → Lined (anchor_at f s t v).edges
+  anchor_lined : (f : List Edge) (s : ℕ) (t : Float) (v : Option Moving) → Lined f → Lined (anchor_at f s t v).edges
   unfolding anchor_at altered stalled
-  anchor_lined f s t NoVertex l = l
-  anchor_lined f s t (Moving p v) l = start_lined f s p t l
+  anchor_lined f s t None l = l
+  anchor_lined f s t (Some m) l = start_lined f s m.at t l
 
   then_lined : (x : ℕ) (s : Front) → Lined s.edges → Lined (then_remove x s).edges
   unfolding then_remove altered
@@ -94,15 +94,15 @@ module _ (P : ℕ → Line → Type 0) where
   unfolding drop_both altered
   both_lined f x n after p t l = start_lined (remove (remove f n) x) after p t (remove_lined (remove f n) x (remove_lined f n l))
 
-  to_lined : (f : List Edge) (x before n after : ℕ) (t : Float) (p : PlanarPoint) (v : Vertex) → Lined f → Lined (spike_to f x before n after t p v).edges
+  to_lined : (f : List Edge) (x before n after : ℕ) (t : Float) (p : PlanarPoint) (v : Option Moving) → Lined f → Lined (spike_to f x before n after t p v).edges
   unfolding spike_to stalled
-  to_lined f x before n after t p NoVertex l = l
-  to_lined f x before n after t p (Moving q w) l = both_lined f x n after (meeting_or p q (meeting (edge_line (edge f before)) (edge_line (edge f after)) t)) t l
+  to_lined f x before n after t p None l = l
+  to_lined f x before n after t p (Some m) l = both_lined f x n after (meeting_or p m.at (meeting (edge_line (edge f before)) (edge_line (edge f after)) t)) t l
 
-  from_lined : (f : List Edge) (x before n after : ℕ) (t : Float) (v : Vertex) → Lined f → Lined (spike_from f x before n after t v).edges
+  from_lined : (f : List Edge) (x before n after : ℕ) (t : Float) (v : Option Moving) → Lined f → Lined (spike_from f x before n after t v).edges
   unfolding spike_from stalled
-  from_lined f x before n after t NoVertex l = l
-  from_lined f x before n after t (Moving p v) l = to_lined f x before n after t p (vertex f after t) l
+  from_lined f x before n after t None l = l
+  from_lined f x before n after t (Some m) l = to_lined f x before n after t m.at (vertex f after t) l
 
   by_lined : (f : List Edge) (t : Float) (r : Tidy) → Lined f → Lined (tidy_by f t r).edges
   unfolding tidy_by altered drop_straight drop_spike anchor

@@ -12,8 +12,7 @@ use lib.ListN.{set, replicate, length-replicate, get_or-replicate}
 use Rattle.plane.specs.declared.PlanarPoint.{PlanarPoint}
 use Rattle.front.specs.declared.Line.{Line}
 use Rattle.front.specs.declared.Edge.{Edge}
-use Rattle.front.specs.declared.Through.{Through}
-use Rattle.front.specs.declared.Through.TheVariants.{NoLine, Along}
+use Rattle.std.specs.Prelude.{Option, None, Some}
 use Rattle.front.specs.declared.Loaded.{Loaded}
 use Rattle.error.specs.declared.Refusal.{Refusal}
 use Rattle.error.specs.declared.Refusal.TheVariants.{Granted, Collapses}
@@ -94,7 +93,7 @@ module _ (P : Line → Type 0) where
   LoadIs n r s = granted s.refusal ≡ true → RingsIn n r s
 
   module _ (ps : List Float) (c : ℕ) (back : Bool) (origin : PlanarPoint) (d : Float) (s₀ : Loaded)
-      (sound : (k : ℕ) → k < c → (l : Line) → through (load_vertex ps c back origin k) (load_vertex ps c back origin (following c k)) ≡ Along l → P l) where
+      (sound : (k : ℕ) → k < c → (l : Line) → through (load_vertex ps c back origin k) (load_vertex ps c back origin (following c k)) ≡ Some l → P l) where
     abbrev first : ℕ
     first = s₀.used
 
@@ -116,10 +115,10 @@ module _ (P : Line → Type 0) where
     unfolding load_refused
     refused_part i s r q h g = absurd (false≢true (sym q ∙ g))
 
-    line_part : (k : ℕ) (s : Loaded) (a : PlanarPoint) (x : Through) → (k < c → (l : Line) → x ≡ Along l → P l) → PartIs k s → granted s.refusal ≡ true → PartIs (suc k) (load_line d first c k a s x)
+    line_part : (k : ℕ) (s : Loaded) (a : PlanarPoint) (x : Option Line) → (k < c → (l : Line) → x ≡ Some l → P l) → PartIs k s → granted s.refusal ≡ true → PartIs (suc k) (load_line d first c k a s x)
     unfolding load_line granted number values loaded_edge
-    line_part k s a NoLine good p g = refused_part (suc k) s (Collapses d) refl
-    line_part k s a (Along l) good p g = by_test (PartIs (suc k)) (has_room s) stored (λ q. refused_part (suc k) s _ refl)
+    line_part k s a None good p g = refused_part (suc k) s (Collapses d) refl
+    line_part k s a (Some l) good p g = by_test (PartIs (suc k)) (has_room s) stored (λ q. refused_part (suc k) s _ refl)
       where
         e : Edge
         e = loaded_edge l first c k a
@@ -228,10 +227,10 @@ module _ (P : Line → Type 0) where
 abbrev pub LoadRefusal : Refusal → Type 0
 LoadRefusal r = granted r ≡ false → (number r ≡ 15) ⊎ (number r ≡ 16)
 
-line_refusal : (d : Float) (first c k : ℕ) (a : PlanarPoint) (s : Loaded) (x : Through) → LoadRefusal (load_line d first c k a s x).refusal
+line_refusal : (d : Float) (first c k : ℕ) (a : PlanarPoint) (s : Loaded) (x : Option Line) → LoadRefusal (load_line d first c k a s x).refusal
 unfolding load_line load_refused granted number values
-line_refusal d first c k a s NoLine = λ q. inr refl
-line_refusal d first c k a s (Along l) = by_test (λ (x : Loaded). LoadRefusal x.refusal) (has_room s) (λ b q. absurd (true≢false q)) (λ b q. inl refl)
+line_refusal d first c k a s None = λ q. inr refl
+line_refusal d first c k a s (Some l) = by_test (λ (x : Loaded). LoadRefusal x.refusal) (has_room s) (λ b q. absurd (true≢false q)) (λ b q. inl refl)
 
 step_refusal : (ps : List Float) (c : ℕ) (back : Bool) (origin : PlanarPoint) (d : Float) (first k : ℕ) (s : Loaded) → LoadRefusal s.refusal
     → LoadRefusal (load_step ps c back origin d first k s).refusal

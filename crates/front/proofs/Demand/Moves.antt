@@ -4,13 +4,12 @@ use mathlib.Core.Path.{◌≡◌, refl, ap, ◌∙◌, subst}
 use mathlib.Core.Bool.{Bool, true, false, cond, not}
 use mathlib.Core.List.{List}
 use Prim.Native.Nat.{ℕ, ◌*◌}
-use native.Mathlib.Omega.{arith}
 use lib.Dec.{eqb}
 use lib.Ieee.{Float, nan, inf, fin, binary64, lt, neg, round, unlike, up, down}
 use Rattle.plane.specs.declared.PlanarPoint.{PlanarPoint}
 use Rattle.front.specs.declared.Line.{Line}
 use Rattle.front.specs.declared.Edge.{Edge}
-use Rattle.front.specs.declared.Place.TheVariants.{Nowhere, There}
+use Rattle.std.specs.Prelude.{None, Some}
 use Rattle.math.specs.Number
 use Rattle.math.specs.Number.{add, mul, div, one}
 use Rattle.math.proofs.Swap.{add_swap}
@@ -56,12 +55,12 @@ same_bits a b p q =
 
 -- ---- a velocity
 
-has_velocity : (a b : Line) → LeftNormal a → LeftNormal b → opposed (direction a) (direction b) ≡ false → (v : PlanarPoint) × (velocity a b ≡ There v)
+has_velocity : (a b : Line) → LeftNormal a → LeftNormal b → opposed (direction a) (direction b) ≡ false → (v : PlanarPoint) × (velocity a b ≡ Some v)
 unfolding velocity velocity_by opposed
 has_velocity a b p q h =
     let scale : Float = add one (dot (normal a) (normal b)) in (
       _,
-      ap (λ (o : Bool). cond o Nowhere (There (record { east = div (add a.n0 b.n0) scale; north = div (add a.n1 b.n1) scale })))
+      ap (λ (o : Bool). cond o None (Some (record { east = div (add a.n0 b.n0) scale; north = div (add a.n1 b.n1) scale })))
           (ap (λ (x : Float). lt (add one x) opposite) (same_bits a b p q) ∙ h),
     )
 
@@ -71,8 +70,8 @@ moves P left f t events bound T l x a now =
     let p : ℕ = (edge f x).previous in
     let ap_live : (links f).live p ≡ 1 = live_prev (links f) T.kept.held.rs T.kept.held.rings x a in
     let n : (edge f p).next ≡ x = next_prev (links f) T.kept.held.rs T.kept.held.rings x a in
-    let w : (v : PlanarPoint) × (velocity (edge_line (edge f p)) (edge_line (edge f x)) ≡ There v) =
+    let w : (v : PlanarPoint) × (velocity (edge_line (edge f p)) (edge_line (edge f x)) ≡ Some v) =
     has_velocity (edge_line (edge f p)) (edge_line (edge f x))
     (left (edge_line (edge f p)) (l.lines p (alive_of (edge f p).alive ap_live))) (left (edge_line (edge f x)) (l.lines x (alive_of (edge f x).alive a)))
     (subst (λ (k : ℕ). opposed (direction (edge_line (edge f p))) (direction (edge_line (edge f k))) ≡ false) n (tidied_apart f t events bound T p ap_live)) in
-    (moved_by (edge f x).start w.0 (Number.sub now (edge f x).since), w.0, ap (vertex_by (edge f x) now) w.1)
+    (record { at = moved_by (edge f x).start w.0 (Number.sub now (edge f x).since); velocity = w.0 }, ap (vertex_by (edge f x) now) w.1)

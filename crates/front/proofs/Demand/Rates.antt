@@ -12,12 +12,9 @@ use lib.Ieee.Fits.{down_pos}
 use Rattle.plane.specs.declared.PlanarPoint.{PlanarPoint}
 use Rattle.front.specs.declared.Line.{Line}
 use Rattle.front.specs.declared.Edge.{Edge}
-use Rattle.front.specs.declared.Place.{Place}
-use Rattle.front.specs.declared.Place.TheVariants.{Nowhere, There}
-use Rattle.front.specs.declared.Vertex.{Vertex}
-use Rattle.front.specs.declared.Vertex.TheVariants.{NoVertex, Moving}
+use Rattle.front.specs.declared.Moving.{Moving}
 use Rattle.front.specs.declared.Length.{Length}
-use Rattle.front.specs.declared.Length.TheVariants.{NoLength, Long}
+use Rattle.std.specs.Prelude.{Option, None, Some}
 use Rattle.math.specs.Number
 use Rattle.math.specs.Number.{add, div, one}
 use Rattle.front.specs.Thresholds.{opposite}
@@ -75,9 +72,9 @@ above k (fin false n d) h q =
 
 -- ---- velocities
 
-abbrev PlaceIs : Place → Type 0
-PlaceIs Nowhere = Unit {0}
-PlaceIs (There v) = SmallPoint 42 v
+abbrev PlaceIs : Option PlanarPoint → Type 0
+PlaceIs None = Unit {0}
+PlaceIs (Some v) = SmallPoint 42 v
 
 velocity_small : (a b : Line) → Bounded a → Bounded b → PlaceIs (velocity a b)
 unfolding velocity velocity_by
@@ -90,21 +87,21 @@ velocity_small a b u v = go (lt scale opposite) refl
     scale_small = add_small 3 one (dot (normal a) (normal b)) (omega arith) (wider 0 3 one (omega arith) one_small)
         (dot_small 1 1 (normal a) (normal b) (omega arith) (record { east = u.n0; north = u.n1 }) (record { east = v.n0; north = v.n1 }))
 
-    go : (o : Bool) → lt scale opposite ≡ o → PlaceIs (cond o Nowhere (There (record { east = div (add a.n0 b.n0) scale; north = div (add a.n1 b.n1) scale })))
+    go : (o : Bool) → lt scale opposite ≡ o → PlaceIs (cond o None (Some (record { east = div (add a.n0 b.n0) scale; north = div (add a.n1 b.n1) scale })))
     go true q = tt
     go false q = record {
       east = div_small 40 2 (add a.n0 b.n0) scale (omega arith) (add_small 1 a.n0 b.n0 (omega arith) u.n0 v.n0) (above 4 scale scale_small q);
       north = div_small 40 2 (add a.n1 b.n1) scale (omega arith) (add_small 1 a.n1 b.n1 (omega arith) u.n1 v.n1) (above 4 scale scale_small q);
     }
 
-abbrev VertexIs : Vertex → Type 0
-VertexIs NoVertex = Unit {0}
-VertexIs (Moving p v) = SmallPoint 42 v
+abbrev VertexIs : Option Moving → Type 0
+VertexIs None = Unit {0}
+VertexIs (Some m) = SmallPoint 42 m.velocity
 
-by_small : (e : Edge) (t : Float) (p : Place) → PlaceIs p → VertexIs (vertex_by e t p)
+by_small : (e : Edge) (t : Float) (p : Option PlanarPoint) → PlaceIs p → VertexIs (vertex_by e t p)
 unfolding vertex_by
-by_small e t Nowhere h = tt
-by_small e t (There v) h = h
+by_small e t None h = tt
+by_small e t (Some v) h = h
 
 module _ (f : List Edge) (l : Lined (λ i. Bounded) f) (rs : List Ring) (R : RingsOf (links f) rs) (t : Float) where
   bounded : (x : ℕ) → (links f).live x ≡ 1 → Bounded (edge_line (edge f x))
@@ -115,26 +112,28 @@ module _ (f : List Edge) (l : Lined (λ i. Bounded) f) (rs : List Ring) (R : Rin
   vertex_small x a = by_small (edge f x) t (velocity (edge_line (edge f (edge f x).previous)) (edge_line (edge f x)))
       (velocity_small (edge_line (edge f (edge f x).previous)) (edge_line (edge f x)) (bounded (edge f x).previous (live_prev (links f) rs R x a)) (bounded x a))
 
-  abbrev LengthIs : Length → Type 0
-  LengthIs NoLength = Unit {0}
-  LengthIs (Long a rate) = Small 45 rate
+  abbrev LengthIs : Option Length → Type 0
+  LengthIs None = Unit {0}
+  LengthIs (Some l) = Small 45 l.rate
 
-  to_small : (e : Edge) → Bounded (edge_line e) → (p v : PlanarPoint) → SmallPoint 42 v → (w : Vertex) → VertexIs w → LengthIs (length_to e p v w)
+  to_small : (e : Edge) → Bounded (edge_line e) → (from : Moving) → SmallPoint 42 from.velocity → (to : Option Moving) → VertexIs to → LengthIs (length_to e from to)
   unfolding length_to sub
-  to_small e b p v h NoVertex k = tt
-  to_small e b p v h (Moving q w) k =
+  to_small e b from h None k = tt
+  to_small e b from h (Some to) k =
+      let v : PlanarPoint = from.velocity in
+      let w : PlanarPoint = to.velocity in
       dot_small 1 43 (direction (edge_line e)) (sub w v) (omega arith) (record { east = b.u0; north = b.u1 })
       (record { east = sub_small 42 w.east v.east (omega arith) k.east h.east; north = sub_small 42 w.north v.north (omega arith) k.north h.north })
 
-  from_small : (x : ℕ) → (links f).live x ≡ 1 → (v : Vertex) → VertexIs v → LengthIs (length_from f (edge f x) t v)
+  from_small : (x : ℕ) → (links f).live x ≡ 1 → (v : Option Moving) → VertexIs v → LengthIs (length_from f (edge f x) t v)
   unfolding length_from
-  from_small x a NoVertex h = tt
-  from_small x a (Moving p v) h =
-      to_small (edge f x) (bounded x a) p v h (vertex f (edge f x).next t) (vertex_small (edge f x).next (live_next (links f) rs R x a))
+  from_small x a None h = tt
+  from_small x a (Some m) h =
+      to_small (edge f x) (bounded x a) m h (vertex f (edge f x).next t) (vertex_small (edge f x).next (live_next (links f) rs R x a))
 
   length_small : (x : ℕ) → (links f).live x ≡ 1 → LengthIs (edge_length f x t)
   unfolding edge_length
   length_small x a = from_small x a (vertex f x t) (vertex_small x a)
 
   pub rates_bounded : Rates f t
-  rates_bounded x live a rate q d = subst (Small 45) d (subst LengthIs q (length_small x live))
+  rates_bounded x live l q d = subst (Small 45) d (subst LengthIs q (length_small x live))

@@ -10,14 +10,11 @@ use lib.Ieee.{Float, inf, lt, le, neg}
 use borrow.Author.Tests.{eqb-false, not-true}
 use Rattle.plane.specs.declared.PlanarPoint.{PlanarPoint}
 use Rattle.front.specs.declared.Edge.{Edge}
-use Rattle.front.specs.declared.Vertex.{Vertex}
-use Rattle.front.specs.declared.Vertex.TheVariants.{Moving}
+use Rattle.front.specs.declared.Moving.{Moving}
 use Rattle.front.specs.declared.Length.{Length}
-use Rattle.front.specs.declared.Length.TheVariants.{Long}
+use Rattle.std.specs.Prelude.{Option, None, Some}
 use Rattle.front.specs.declared.SoonestCollapse.{SoonestCollapse}
-use Rattle.front.specs.declared.SoonestCollapse.TheVariants.{NoCollapse, CollapseAfter}
 use Rattle.front.specs.declared.SoonestSplit.{SoonestSplit}
-use Rattle.front.specs.declared.SoonestSplit.TheVariants.{NoSplit, SplitAfter}
 use Rattle.front.specs.declared.EventSearch.{EventSearch}
 use Rattle.front.specs.declared.Event.{Event}
 use Rattle.front.specs.declared.Event.TheVariants.{Stalled, Never, Collapse, Split}
@@ -38,13 +35,13 @@ use Rattle.front.proofs.Demand.Events.{Hits}
 
 -- what is found: live edges, at steps that go forward; no event is found at a vertex without a velocity
 module _ (f : List Edge) where
-  abbrev Gone : SoonestCollapse → Type 0
-  Gone NoCollapse = Unit {0}
-  Gone (CollapseAfter x s) = ((links f).live x ≡ 1) × Forward s
+  abbrev Gone : Option SoonestCollapse → Type 0
+  Gone None = Unit {0}
+  Gone (Some c) = ((links f).live c.edge ≡ 1) × Forward c.step
 
-  abbrev Struck : SoonestSplit → Type 0
-  Struck NoSplit = Unit {0}
-  Struck (SplitAfter v e s) = Hits f v e × Forward s
+  abbrev Struck : Option SoonestSplit → Type 0
+  Struck None = Unit {0}
+  Struck (Some h) = Hits f h.vertex h.edge × Forward h.step
 
   abbrev pub EventIs : Event → Type 0
   EventIs Stalled = ⊥
@@ -54,7 +51,7 @@ module _ (f : List Edge) where
 
 -- no edge shrinks infinitely fast
 abbrev pub Rates : List Edge → Float → Type 0
-Rates f t = (x : ℕ) → (links f).live x ≡ 1 → (l rate : Float) → edge_length f x t ≡ Long l rate → rate ≢ inf true
+Rates f t = (x : ℕ) → (links f).live x ≡ 1 → (l : Length) → edge_length f x t ≡ Some l → l.rate ≢ inf true
 
 -- from next to next, live edges only
 abbrev pub On : List Edge → Type 0
@@ -62,15 +59,15 @@ On f = (x : ℕ) → (links f).live x ≡ 1 → (links f).live (edge f x).next �
 
 module _ (f : List Edge) (moves : Moves f) (on : On f) where
   -- what holds of every vertex that moves, and of every length that there is
-  at_vertex : (Q : Vertex → Type 0) (x : ℕ) → (links f).live x ≡ 1 → (at : Float) → ((p v : PlanarPoint) → Q (Moving p v)) → Q (vertex f x at)
-  at_vertex Q x a at h = let m : (p : PlanarPoint) × (v : PlanarPoint) × (vertex f x at ≡ Moving p v) = moves x a at in subst Q (sym m.2) (h m.0 m.1)
+  at_vertex : (Q : Option Moving → Type 0) (x : ℕ) → (links f).live x ≡ 1 → (at : Float) → ((m : Moving) → Q (Some m)) → Q (vertex f x at)
+  at_vertex Q x a at h = let m : (m : Moving) × (vertex f x at ≡ Some m) = moves x a at in subst Q (sym m.1) (h m.0)
 
-  length_there : (x : ℕ) → (links f).live x ≡ 1 → (t : Float) → (l : Float) × (rate : Float) × (edge_length f x t ≡ Long l rate)
+  length_there : (x : ℕ) → (links f).live x ≡ 1 → (t : Float) → (l : Length) × (edge_length f x t ≡ Some l)
   unfolding edge_length length_from length_to
   length_there x a t =
-      let m : (p : PlanarPoint) × (v : PlanarPoint) × (vertex f x t ≡ Moving p v) = moves x a t in
-      let n : (p : PlanarPoint) × (v : PlanarPoint) × (vertex f (edge f x).next t ≡ Moving p v) = moves (edge f x).next (on x a) t in
-      (_, _, ap (length_from f (edge f x) t) m.2 ∙ ap (length_to (edge f x) m.0 m.1) n.2)
+      let m : (m : Moving) × (vertex f x t ≡ Some m) = moves x a t in
+      let n : (m : Moving) × (vertex f (edge f x).next t ≡ Some m) = moves (edge f x).next (on x a) t in
+      (_, ap (length_from f (edge f x) t) m.1 ∙ ap (length_to (edge f x) m.0) n.1)
 
 module _ (f : List Edge) (t : Float) (rates : Rates f t) (moves : Moves f) (on : On f) where
   record Fine (s : EventSearch) : Type 0 where
@@ -81,19 +78,19 @@ module _ (f : List Edge) (t : Float) (rates : Rates f t) (moves : Moves f) (on :
   -- ---- a vertex against an edge
 
   module _ (v e : ℕ) (w : Hits f v e) where
-    to_fine : (u : PlanarPoint) (step : Float) (p vel from : PlanarPoint) (s : EventSearch) (to z : PlanarPoint) → lt step zero_float ≡ false → Fine s
-        → Fine (hit_to v e u step (moved_by p vel step) from s (Moving to z))
+    to_fine : (u : PlanarPoint) (step : Float) (p vel from : PlanarPoint) (s : EventSearch) (to : Moving) → lt step zero_float ≡ false → Fine s
+        → Fine (hit_to v e u step (moved_by p vel step) from s (Some to))
     unfolding hit_to look_split
-    to_fine u step p vel from s to z q h = by_test Fine (hit_within u (moved_by p vel step) from to)
-        (λ r. record { gone = h.gone; struck = (w, hit_forward u p vel from to step q r); moving = h.moving })
+    to_fine u step p vel from s to q h = by_test Fine (hit_within u (moved_by p vel step) from to.at)
+        (λ r. record { gone = h.gone; struck = (w, hit_forward u p vel from to.at step q r); moving = h.moving })
         (λ r. h)
 
-    from_fine : (step at : Float) (p vel : PlanarPoint) (s : EventSearch) (from z : PlanarPoint) → lt step zero_float ≡ false → Fine s
-        → Fine (hit_from f v e (edge f e) step at (moved_by p vel step) s (Moving from z))
+    from_fine : (step at : Float) (p vel : PlanarPoint) (s : EventSearch) (from : Moving) → lt step zero_float ≡ false → Fine s
+        → Fine (hit_from f v e (edge f e) step at (moved_by p vel step) s (Some from))
     unfolding hit_from
-    from_fine step at p vel s from z q h =
-        at_vertex f moves on (λ x. Fine (hit_to v e (direction (edge_line (edge f e))) step (moved_by p vel step) from s x)) (edge f e).next (on e w.hit) at
-        (λ to y. to_fine (direction (edge_line (edge f e))) step p vel from s to y q h)
+    from_fine step at p vel s from q h =
+        at_vertex f moves on (λ x. Fine (hit_to v e (direction (edge_line (edge f e))) step (moved_by p vel step) from.at s x)) (edge f e).next (on e w.hit) at
+        (λ to. to_fine (direction (edge_line (edge f e))) step p vel from.at s to q h)
 
     after_fine : (p vel : PlanarPoint) (step : Float) (s : EventSearch) → Fine s → Fine (hit_after f t v e (edge f e) p vel step s)
     unfolding hit_after hit_then
@@ -104,7 +101,7 @@ module _ (f : List Edge) (t : Float) (rates : Rates f t) (moves : Moves f) (on :
         go false q true = h
         go false q false =
             at_vertex f moves on (λ x. Fine (hit_from f v e (edge f e) step (add t step) (moved_by p vel step) s x)) e w.hit (add t step)
-            (λ from z. from_fine step (add t step) p vel s from z q h)
+            (λ from. from_fine step (add t step) p vel s from q h)
 
     at_fine : (p vel : PlanarPoint) (s : EventSearch) → Fine s → Fine (hit_at f t v e (edge f e) p vel s)
     unfolding hit_at hit_closing
@@ -134,15 +131,15 @@ module _ (f : List Edge) (t : Float) (rates : Rates f t) (moves : Moves f) (on :
 
   -- ---- one edge
 
-  sooner_fine : (x : ℕ) (step : Float) (c : SoonestCollapse) → (links f).live x ≡ 1 → Forward step → Gone f c → Gone f (sooner x step c)
+  sooner_fine : (x : ℕ) (step : Float) (c : Option SoonestCollapse) → (links f).live x ≡ 1 → Forward step → Gone f c → Gone f (Some (sooner x step c))
   unfolding sooner
-  sooner_fine x step NoCollapse a k g = (a, k)
-  sooner_fine x step (CollapseAfter y s) a k g = by_test (Gone f) (lt step s) (λ q. (a, k)) (λ q. g)
+  sooner_fine x step None a k g = (a, k)
+  sooner_fine x step (Some c) a k g = by_test (λ (r : SoonestCollapse). Gone f (Some r)) (lt step c.step) (λ q. (a, k)) (λ q. g)
 
-  shrinking_fine : (x : ℕ) (l rate : Float) (s : EventSearch) → (links f).live x ≡ 1 → edge_length f x t ≡ Long l rate → Fine s → Fine (shrinking x l rate s)
+  shrinking_fine : (x : ℕ) (l : Length) (s : EventSearch) → (links f).live x ≡ 1 → edge_length f x t ≡ Some l → Fine s → Fine (shrinking x l.value l.rate s)
   unfolding shrinking look_collapse
-  shrinking_fine x l rate s a q h = by_test Fine (lt rate zero_float)
-      (λ r. record { gone = sooner_fine x (div (fmax l zero_float) (neg rate)) s.collapse a (shrink_forward l rate r (rates x a l rate q)) h.gone; struck = h.struck; moving = h.moving })
+  shrinking_fine x l s a q h = by_test Fine (lt l.rate zero_float)
+      (λ r. record { gone = sooner_fine x (div (fmax l.value zero_float) (neg l.rate)) s.collapse a (shrink_forward l.value l.rate r (rates x a l q)) h.gone; struck = h.struck; moving = h.moving })
       (λ r. h)
 
   corner_fine : (x : ℕ) (p vel : PlanarPoint) (s : EventSearch) → (links f).live x ≡ 1 → Fine s → Fine (look_corner f t x (edge f x) p vel s)
@@ -154,9 +151,9 @@ module _ (f : List Edge) (t : Float) (rates : Rates f t) (moves : Moves f) (on :
   unfolding look_vertex look_length
   vertex_fine x s a h =
       at_vertex f moves on (λ v. Fine (look_vertex f t x (edge f x) s v)) x a t
-      (λ p vel. let m : (l : Float) × (rate : Float) × (edge_length f x t ≡ Long l rate) = length_there f moves on x a t in
-      subst (λ (l : Length). Fine (look_length f t x (edge f x) p vel s l)) (sym m.2)
-      (corner_fine x p vel (shrinking x m.0 m.1 s) a (shrinking_fine x m.0 m.1 s a m.2 h)))
+      (λ m. let l : (l : Length) × (edge_length f x t ≡ Some l) = length_there f moves on x a t in
+      subst (λ (r : Option Length). Fine (look_length f t x (edge f x) m.at m.velocity s r)) (sym l.1)
+      (corner_fine x m.at m.velocity (shrinking x l.0.value l.0.rate s) a (shrinking_fine x l.0 s a l.1 h)))
 
   step_fine : (x : ℕ) (s : EventSearch) → Fine s → Fine (look_step f t x s)
   unfolding look_step look_at
@@ -164,16 +161,16 @@ module _ (f : List Edge) (t : Float) (rates : Rates f t) (moves : Moves f) (on :
 
   look_fine : Fine (look f t)
   unfolding look
-  look_fine = rounds_keep (look_step f t) (λ i s. Fine s) (record { stalled = false; collapse = NoCollapse; split = NoSplit }) (record { gone = tt; struck = tt; moving = refl }) step_fine 128
+  look_fine = rounds_keep (look_step f t) (λ i s. Fine s) (record { stalled = false; collapse = None; split = None }) (record { gone = tt; struck = tt; moving = refl }) step_fine 128
 
   -- ---- the event
 
-  choose_fine : (c : SoonestCollapse) (h : SoonestSplit) → Gone f c → Struck f h → EventIs f (choose t c h)
+  choose_fine : (c : Option SoonestCollapse) (h : Option SoonestSplit) → Gone f c → Struck f h → EventIs f (choose t c h)
   unfolding choose
-  choose_fine NoCollapse NoSplit g k = tt
-  choose_fine NoCollapse (SplitAfter v e s) g k = k
-  choose_fine (CollapseAfter x c) NoSplit g k = g
-  choose_fine (CollapseAfter x c) (SplitAfter v e s) g k = by_test (EventIs f) (lt s (Number.sub c (mul tie (add one t)))) (λ q. k) (λ q. g)
+  choose_fine None None g k = tt
+  choose_fine None (Some h) g k = k
+  choose_fine (Some c) None g k = g
+  choose_fine (Some c) (Some h) g k = by_test (EventIs f) (lt h.step (Number.sub c.step (mul tie (add one t)))) (λ q. k) (λ q. g)
 
   pub event_fine : EventIs f (next_event f t)
   unfolding next_event event_of

@@ -12,8 +12,7 @@ use lib.ListN.{get_or}
 use lib.Ieee.{Float, nan, inf, fin, lt, le, eq, up, down}
 use Rattle.plane.specs.declared.PlanarPoint.{PlanarPoint}
 use Rattle.front.specs.declared.Line.{Line}
-use Rattle.front.specs.declared.Through.{Through}
-use Rattle.front.specs.declared.Through.TheVariants.{NoLine, Along}
+use Rattle.std.specs.Prelude.{Option, None, Some}
 use Rattle.math.specs.Number.{div, zero_float, abs}
 use Rattle.ring_check.specs.Checks.{max_coordinate}
 use Rattle.hypotenuse.specs.Hypot.{hypot}
@@ -31,9 +30,9 @@ use Rattle.front.proofs.Demand.Unit.{hypot_east, hypot_north, div_long}
 
 -- ---- a line through two points
 
-abbrev ThroughIs : Through → Type 0
-ThroughIs NoLine = Unit {0}
-ThroughIs (Along l) = Bounded l
+abbrev ThroughIs : Option Line → Type 0
+ThroughIs None = Unit {0}
+ThroughIs (Some l) = Bounded l
 
 along_bounded : (p : PlanarPoint) (x y : Float) → Small 1 x → Small 1 y → Bounded (line_along p x y)
 unfolding line_along
@@ -50,7 +49,7 @@ by_bounded p k (fin s m e) (fin t n d) h i = go (le l zero_float) refl
     l : Float
     l = hypot (fin s m e) (fin t n d)
 
-    go : (b : Bool) → le l zero_float ≡ b → ThroughIs (cond b NoLine (Along (line_along p (div (fin s m e) l) (div (fin t n d) l))))
+    go : (b : Bool) → le l zero_float ≡ b → ThroughIs (cond b None (Some (line_along p (div (fin s m e) l) (div (fin t n d) l))))
     go true q = tt
     go false q = along_bounded p (div (fin s m e) l) (div (fin t n d) l) (div_long s m e l (hypot_east s m e t n d) q) (div_long t n d l (hypot_north s m e t n d) q)
 
@@ -60,7 +59,7 @@ through_is k a b h u v =
     by_bounded a (suc k) (sub b a).east (sub b a).north
     (sub_small k b.east a.east h v.east u.east) (sub_small k b.north a.north h v.north u.north)
 
-pub through_bounded : (k : ℕ) (a b : PlanarPoint) → suc k ≤ 1023 → SmallPoint k a → SmallPoint k b → (l : Line) → through a b ≡ Along l → Bounded l
+pub through_bounded : (k : ℕ) (a b : PlanarPoint) → suc k ≤ 1023 → SmallPoint k a → SmallPoint k b → (l : Line) → through a b ≡ Some l → Bounded l
 through_bounded k a b h u v l q = subst ThroughIs q (through_is k a b h u v)
 
 -- ---- coordinates
@@ -113,7 +112,7 @@ loaded_small ps n back origin q o k h = go back
 
 -- what the loading of a ring owes
 pub lines_sound : (ps : List Float) (c : ℕ) (back : Bool) (origin : PlanarPoint) → in_range ps c ≡ true → SmallPoint 30 origin
-    → (k : ℕ) → k < c → (l : Line) → through (load_vertex ps c back origin k) (load_vertex ps c back origin (following c k)) ≡ Along l → Bounded l
+    → (k : ℕ) → k < c → (l : Line) → through (load_vertex ps c back origin k) (load_vertex ps c back origin (following c k)) ≡ Some l → Bounded l
 lines_sound ps c back origin q o k h l e =
     through_bounded 31 (load_vertex ps c back origin k) (load_vertex ps c back origin (following c k)) (omega arith)
     (loaded_small ps c back origin q o k h) (loaded_small ps c back origin q o (following c k) (following_lt c k h)) l e

@@ -10,10 +10,9 @@ use borrow.Author.Tests.{ltb-true, ltb-false, eq-eqb, ne_eqb}
 use lib.ListN.{length}
 use Rattle.plane.specs.declared.PlanarPoint.{PlanarPoint}
 use Rattle.front.specs.declared.Edge.{Edge}
-use Rattle.front.specs.declared.Vertex.{Vertex}
-use Rattle.front.specs.declared.Vertex.TheVariants.{NoVertex, Moving}
+use Rattle.front.specs.declared.Moving.{Moving}
 use Rattle.front.specs.declared.Length.{Length}
-use Rattle.front.specs.declared.Length.TheVariants.{NoLength, Long}
+use Rattle.std.specs.Prelude.{Option, None, Some}
 use Rattle.front.specs.declared.Tidy.{Tidy}
 use Rattle.front.specs.declared.Tidy.TheVariants.{Settled, SmallRing, Straight, Spike, Empty}
 use Rattle.front.specs.declared.Front.{Front}
@@ -22,7 +21,7 @@ use Rattle.front.specs.Edges.{edge, edge_line, set_start, kill, remove, ring_len
 use Rattle.front.specs.Lines.{direction, meeting}
 use Rattle.front.specs.Tidying.{empty, tidy_length, opposed, same_way, tidy_corner, few, tidy_edge, tidy_at, unless_found, find_step, find_tidy, Drop, drop_on, drop_step, drop_ring, drop_straight, meeting_or, drop_both, spike_to}
 use Rattle.front.specs.Tidying.{spike_from, drop_spike, tidy_by, tidy_once, tidy_step, tidy}
-use Rattle.front.specs.Links.{Links, bit, links}
+use Rattle.front.specs.Links.{bit, links}
 use Rattle.front.proofs.Demand.Links
 use Rattle.front.proofs.Demand.KeepsRings
 use Rattle.base.proofs.Laws.{stays_to, rounds_keep}
@@ -56,10 +55,10 @@ module _ (f : List Edge) (t : Float) where
   Found (Spike k) = ((links f).live k ≡ 1) × (3 ≤ ring_len f k)
   Found (Empty k) = ((links f).live k ≡ 1) × (3 ≤ ring_len f k)
 
-  at_length : (x : ℕ) (l : Length) → (links f).live x ≡ 1 → 3 ≤ ring_len f x → Found (tidy_length x t l)
+  at_length : (x : ℕ) (l : Option Length) → (links f).live x ≡ 1 → 3 ≤ ring_len f x → Found (tidy_length x t l)
   unfolding tidy_length
-  at_length x NoLength a h = tt
-  at_length x (Long l rate) a h = by_test Found (empty t l rate) (λ q. (a, h)) (λ q. tt)
+  at_length x None a h = tt
+  at_length x (Some l) a h = by_test Found (empty t l.value l.rate) (λ q. (a, h)) (λ q. tt)
 
   at_corner : (x : ℕ) (u w : PlanarPoint) → (links f).live x ≡ 1 → 3 ≤ ring_len f x → Found (tidy_corner f x t u w)
   unfolding tidy_corner
@@ -209,12 +208,12 @@ module _ (f : List Edge) (l : length f ≡ 128) (x : ℕ) where
 abbrev Mended : Front → ℕ → ℕ → ℕ → Type 0
 Mended s events bound m = s.stalled ≡ false → Less s.edges events bound m
 
-anchored : (f : List Edge) (events bound s x : ℕ) (t : Float) (k : Kept f events bound) → (links f).live x ≡ 1 → (v : Vertex)
+anchored : (f : List Edge) (events bound s x : ℕ) (t : Float) (k : Kept f events bound) → (links f).live x ≡ 1 → (v : Option Moving)
     → Mended (then_remove x (anchor_at f s t v)) events bound (edges k.held.rs)
 unfolding then_remove anchor_at altered stalled starts
-anchored f events bound s x t k a NoVertex = λ q. absurd (true≢false q)
-anchored f events bound s x t k a (Moving p v) = λ q.
-    removes (set_start f s p t) events bound x (starts f events bound s p t k) ((start_same f k.size s p t).lives x ∙ a)
+anchored f events bound s x t k a None = λ q. absurd (true≢false q)
+anchored f events bound s x t k a (Some m) = λ q.
+    removes (set_start f s m.at t) events bound x (starts f events bound s m.at t k) ((start_same f k.size s m.at t).lives x ∙ a)
 
 -- an edge of a ring of three is not its own next
 apart : (f : List Edge) (events bound x : ℕ) (k : Kept f events bound) → (links f).live x ≡ 1 → 3 ≤ ring_len f x → x ≢ (edge f x).next
@@ -242,19 +241,19 @@ both_gone f events bound x p t k a h = λ q.
       fewer = omega (arith, one.fewer, two.fewer);
     }
 
-spike_to_gone : (f : List Edge) (events bound x before : ℕ) (t : Float) (p : PlanarPoint) (k : Kept f events bound) → (links f).live x ≡ 1 → 3 ≤ ring_len f x → (v : Vertex)
+spike_to_gone : (f : List Edge) (events bound x before : ℕ) (t : Float) (p : PlanarPoint) (k : Kept f events bound) → (links f).live x ≡ 1 → 3 ≤ ring_len f x → (v : Option Moving)
     → Mended (spike_to f x before (edge f x).next (edge f (edge f x).next).next t p v) events bound (edges k.held.rs)
 unfolding spike_to stalled
-spike_to_gone f events bound x before t p k a h NoVertex = λ q. absurd (true≢false q)
-spike_to_gone f events bound x before t p k a h (Moving q w) =
-    both_gone f events bound x (meeting_or p q (meeting (edge_line (edge f before)) (edge_line (edge f (edge f (edge f x).next).next)) t)) t k a h
+spike_to_gone f events bound x before t p k a h None = λ q. absurd (true≢false q)
+spike_to_gone f events bound x before t p k a h (Some to) =
+    both_gone f events bound x (meeting_or p to.at (meeting (edge_line (edge f before)) (edge_line (edge f (edge f (edge f x).next).next)) t)) t k a h
 
-spike_from_gone : (f : List Edge) (events bound x before : ℕ) (t : Float) (k : Kept f events bound) → (links f).live x ≡ 1 → 3 ≤ ring_len f x → (v : Vertex)
+spike_from_gone : (f : List Edge) (events bound x before : ℕ) (t : Float) (k : Kept f events bound) → (links f).live x ≡ 1 → 3 ≤ ring_len f x → (v : Option Moving)
     → Mended (spike_from f x before (edge f x).next (edge f (edge f x).next).next t v) events bound (edges k.held.rs)
 unfolding spike_from stalled
-spike_from_gone f events bound x before t k a h NoVertex = λ q. absurd (true≢false q)
-spike_from_gone f events bound x before t k a h (Moving p v) =
-    spike_to_gone f events bound x before t p k a h (vertex f (edge f (edge f x).next).next t)
+spike_from_gone f events bound x before t k a h None = λ q. absurd (true≢false q)
+spike_from_gone f events bound x before t k a h (Some from) =
+    spike_to_gone f events bound x before t from.at k a h (vertex f (edge f (edge f x).next).next t)
 
 small_gone : (f : List Edge) (events bound x : ℕ) (k : Kept f events bound) → (links f).live x ≡ 1 → ring_len f x < 3
     → Less (drop_ring f x) events bound (edges k.held.rs)
@@ -301,20 +300,20 @@ module _ (events bound : ℕ) (t : Float) (f : List Edge) (k : Kept f events bou
   unfolding then_remove altered
   then_changed x s c = by_test (λ (r : Front). r.changed ≡ true) s.stalled (λ q. c) (λ q. refl)
 
-  anchor_changed : (g : List Edge) (x : ℕ) (v : Vertex) → (anchor_at g x t v).changed ≡ true
+  anchor_changed : (g : List Edge) (x : ℕ) (v : Option Moving) → (anchor_at g x t v).changed ≡ true
   unfolding anchor_at altered stalled
-  anchor_changed g x NoVertex = refl
-  anchor_changed g x (Moving p v) = refl
+  anchor_changed g x None = refl
+  anchor_changed g x (Some m) = refl
 
-  to_changed : (g : List Edge) (x before m after : ℕ) (p : PlanarPoint) (w : Vertex) → (spike_to g x before m after t p w).changed ≡ true
+  to_changed : (g : List Edge) (x before m after : ℕ) (p : PlanarPoint) (w : Option Moving) → (spike_to g x before m after t p w).changed ≡ true
   unfolding spike_to stalled drop_both altered
-  to_changed g x before m after p NoVertex = refl
-  to_changed g x before m after p (Moving q w) = refl
+  to_changed g x before m after p None = refl
+  to_changed g x before m after p (Some to) = refl
 
-  spike_changed : (g : List Edge) (x before m after : ℕ) (v : Vertex) → (spike_from g x before m after t v).changed ≡ true
+  spike_changed : (g : List Edge) (x before m after : ℕ) (v : Option Moving) → (spike_from g x before m after t v).changed ≡ true
   unfolding spike_from stalled
-  spike_changed g x before m after NoVertex = refl
-  spike_changed g x before m after (Moving p v) = to_changed g x before m after p (vertex g after t)
+  spike_changed g x before m after None = refl
+  spike_changed g x before m after (Some from) = to_changed g x before m after from.at (vertex g after t)
 
   once_case : (r : Tidy) → find_tidy f t ≡ r → Found f t r → TriedAt events bound t (suc i) (tidy_by f t r)
   unfolding tidy_by altered collapse anchor drop_straight drop_spike
@@ -322,17 +321,17 @@ module _ (events bound : ℕ) (t : Float) (f : List Edge) (k : Kept f events bou
   once_case (SmallRing x) z h q = mended_on (altered (drop_ring f x)) refl (λ e. small_gone f events bound x k h.0 h.1) q
   once_case (Straight x) z h q =
       let m : ℕ = (edge f x).next in
-      let v : Vertex = vertex f (edge f m).next t in
+      let v : Option Moving = vertex f (edge f m).next t in
       mended_on (then_remove m (anchor_at f (edge f m).next t v)) (then_changed m (anchor_at f (edge f m).next t v) (anchor_changed f (edge f m).next v))
       (anchored f events bound (edge f m).next m t k (live_next (links f) k.held.rs k.held.rings x h.0) v) q
   once_case (Spike x) z h q =
       let m : ℕ = (edge f x).next in
-      let v : Vertex = vertex f x t in
+      let v : Option Moving = vertex f x t in
       mended_on (spike_from f x (edge f x).previous m (edge f m).next t v) (spike_changed f x (edge f x).previous m (edge f m).next v)
       (spike_from_gone f events bound x (edge f x).previous t k h.0 h.1 v) q
   once_case (Empty x) z h q =
       let m : ℕ = (edge f x).next in
-      let v : Vertex = vertex f m t in
+      let v : Option Moving = vertex f m t in
       mended_on (then_remove x (anchor_at f m t v)) (then_changed x (anchor_at f m t v) (anchor_changed f m v)) (anchored f events bound m x t k h.0 v) q
 
 module _ (events bound : ℕ) (t : Float) where

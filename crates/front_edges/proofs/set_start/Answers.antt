@@ -1,8 +1,15 @@
 -- `front_edges::set_start` meets its contract. Assumes nothing.
-use Rattle.front_edges.proofs.Actions.{slot_start}
+use mathlib.Core.Path.{refl, sym}
+use native.Mathlib.Omega.{arith}
+use borrow.Author.Tests.{lt-ltb}
+use lib.Seq.{set_out}
+use Rattle.front.specs.Edges.{edge, on_line_of, with_start, set_start}
 use Rattle.front_edges.proofs.set_start.Goals as goal
 
-pub returns : goal.returns
-returns c =
-    let good = c.well_formed in
-    slot_start _ _ _ _ good.0.1.0.1 c.within-i.ensures.0 _ _ c.start_if.ensures
+pub returns-then-k-lt128 : goal.returns-then-k-lt128
+unfolding edge on_line_of with_start set_start
+returns-then-k-lt128 c = rw (lt-ltb _ _ c.if-k-lt128.true) refl
+
+pub returns-else-k-lt128 : goal.returns-else-k-lt128
+unfolding set_start
+returns-else-k-lt128 c = sym (set_out _ _ _ (omega arith))

@@ -1,10 +1,8 @@
 -- `front_events::shrink` meets its contract. Assumes nothing.
-use Rattle.front_events.proofs.Leaves.{shrink_none, shrink_some}
+use mathlib.Core.Path.{refl}
+use Rattle.front_events.specs.Found.{shrink}
 use Rattle.front_events.proofs.shrink.Goals as goal
 
-pub returns-in-NoLength : goal.returns-in-NoLength
-returns-in-NoLength c = shrink_none _ _ _ c.in-NoLength.is
-
-pub returns-in-Long : goal.returns-in-Long
-returns-in-Long c =
-    shrink_some _ _ _ _ _ _ c.in-Long.is c.max.ensures
+pub returns : goal.returns
+unfolding shrink
+returns c = rw c.max.ensures refl

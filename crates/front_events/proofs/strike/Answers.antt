@@ -1,17 +1,15 @@
 -- `front_events::strike` meets its contract. Assumes nothing.
-use Rattle.front_events.proofs.Leaves.{strike_no_from, strike_no_to, strike_both}
-use mathlib.Core.Path.{ap, ◌∙◌}
-use Rattle.front.specs.Lines.{direction}
+use Rattle.front_events.specs.Found.{strike}
 use Rattle.front_events.proofs.strike.Goals as goal
 
-pub returns-in-NoVertex : goal.returns-in-NoVertex
-returns-in-NoVertex c = strike_no_from _ _ _ _ c.in-NoVertex.is
+pub returns-in_err-from : goal.returns-in_err-from
+unfolding strike
+returns-in_err-from c = rw c.in_err-from.was c.from_residual.ensures
 
-pub returns-in-NoVertex-to : goal.returns-in-NoVertex-to
-returns-in-NoVertex-to c =
-    strike_no_to _ _ _ _ _ _ c.in-Moving.is c.in-NoVertex-to.is
+pub returns-in_err-to : goal.returns-in_err-to
+unfolding strike
+returns-in_err-to c = rw (c.in_ok-from.was, c.in_err-to.was) c.from_residual-in_err-to.ensures
 
-pub returns-in-Moving-to : goal.returns-in-Moving-to
-returns-in-Moving-to c =
-    strike_both _ _ _ _ _ _ _ _ _ _ c.in-Moving.is c.in-Moving-to.is
-    (c.direction-u.ensures ∙ ap direction c.edge_line.ensures) c.within.ensures
+pub returns : goal.returns
+unfolding strike
+returns c = rw (c.in_ok-from.was, c.in_ok-to.was) (cc)

@@ -1,15 +1,16 @@
 -- `front_lines::length_between` meets its contract. Assumes nothing.
-use Rattle.front_lines.proofs.Ends.{length_no_start, length_no_end, length_both}
+use Rattle.front.specs.Edges
+use Rattle.front_lines.specs.Between
 use Rattle.front_lines.proofs.length_between.Goals as goal
 
-pub returns-in-NoVertex : goal.returns-in-NoVertex
-returns-in-NoVertex c = length_no_start _ _ _ c.in-NoVertex.is
+pub returns-in_err-from : goal.returns-in_err-from
+unfolding Between.length_between
+returns-in_err-from c = rw c.in_err-from.was c.from_residual.ensures
 
-pub returns-in-NoVertex-to : goal.returns-in-NoVertex-to
-returns-in-NoVertex-to c =
-    length_no_end _ _ _ _ _ c.in-Moving.is c.in-NoVertex-to.is
+pub returns-in_err-to : goal.returns-in_err-to
+unfolding Between.length_between Edges.length_to
+returns-in_err-to c = rw (c.in_ok-from.was, c.in_err-to.was) c.from_residual-in_err-to.ensures
 
-pub returns-in-Moving-to : goal.returns-in-Moving-to
-returns-in-Moving-to c =
-    let edge-line-gives = c.edge_line-line.ensures in
-    length_both _ _ _ _ _ _ _ _ _ edge-line-gives c.in-Moving.is c.in-Moving-to.is c.length_to.ensures
+pub returns : goal.returns
+unfolding Between.length_between Edges.length_to
+returns c = rw (c.in_ok-from.was, c.in_ok-to.was) (cc)

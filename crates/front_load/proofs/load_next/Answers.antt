@@ -3,16 +3,7 @@ use mathlib.Core.Path.{refl}
 use Rattle.base.proofs.Choices.{yes, no}
 use Rattle.front.specs.Loading.{load_refused}
 use Rattle.front_load.specs.Next.{fits, load_next}
-use Rattle.front_load.proofs.Loads.{next_fits}
 use Rattle.front_load.proofs.load_next.Goals as goal
-
-pub load_ring-requires : goal.load_ring-requires
-unfolding fits
-load_ring-requires c =
-    let args = c.args in
-    let both =
-    next_fits args.s _ c.if-s-n.true in
-    record { n_bound = both.0; rings_bound = both.1 }
 
 pub returns-then-s-n : goal.returns-then-s-n
 unfolding load_next fits

@@ -3,18 +3,14 @@ use Rattle.front.specs.Tidying
 use mathlib.Core.Path.{refl, sym, ◌∙◌}
 use Rattle.front_tidy.proofs.tidy_length.Goals as goal
 
-pub returns-in-NoLength : goal.returns-in-NoLength
+pub returns-in-None : goal.returns-in-None
 unfolding Tidying.tidy_length
-returns-in-NoLength c = rw c.in-NoLength.is refl
+returns-in-None c = rw c.in-None.is refl
 
 pub returns-then-empty : goal.returns-then-empty
 unfolding Tidying.tidy_length
-returns-then-empty c =
-    let empty-gives = c.empty.ensures in
-    rw (c.in-Long.is, sym empty-gives ∙ c.if-empty.true) refl
+returns-then-empty c = rw (c.in-Some.is, sym c.empty.ensures ∙ c.if-empty.true) refl
 
 pub returns-else-empty : goal.returns-else-empty
 unfolding Tidying.tidy_length
-returns-else-empty c =
-    let empty-gives = c.empty.ensures in
-    rw (c.in-Long.is, sym empty-gives ∙ c.if-empty.false) refl
+returns-else-empty c = rw (c.in-Some.is, sym c.empty.ensures ∙ c.if-empty.false) refl

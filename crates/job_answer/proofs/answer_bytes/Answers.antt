@@ -6,7 +6,7 @@ use Rattle.job_answer.proofs.answer_bytes.Goals as goal
 pub returns-then-not-granted : goal.returns-then-not-granted
 returns-then-not-granted c =
     let granted-gives = c.granted.ensures in
-    let yes1 = c.if-not-granted.true-raw in
+    let yes1 = c.if-not-granted.true in
     let number-gives = c.number.ensures in
     record {
       answered = refused_answered _ _ _ granted-gives _ _ yes1 number-gives c.no_line.ensures.answered;
@@ -28,7 +28,7 @@ ok_line-requires c =
 pub returns-then-proper_region : goal.returns-then-proper_region
 returns-then-proper_region c =
     let given = c.granted.ensures in
-    let left = c.if-not-granted.false-raw in
+    let left = c.if-not-granted.false in
     let asked = c.proper_region.ensures in
     let told = c.if-proper_region.true in
     record {
@@ -39,7 +39,7 @@ returns-then-proper_region c =
 pub returns : goal.returns
 returns c =
     let given = c.granted.ensures in
-    let left = c.if-not-granted.false-raw in
+    let left = c.if-not-granted.false in
     let asked = c.proper_region.ensures in
     let told = c.if-proper_region.false in
     record {

@@ -1,5 +1,5 @@
 -- `job_answer::ok_line` meets its contract. Assumes nothing.
-use Rattle.job_answer.proofs.Whole.{answered_yes, answered_no, written_yes, written_no, shape_length, shape_stored, place}
+use Rattle.job_answer.proofs.Whole.{answered_yes, answered_no, written_yes, written_no, shape_length, shape_stored}
 use Rattle.job_answer.proofs.ok_line.Goals as goal
 
 pub returns-then-out-needed : goal.returns-then-out-needed
@@ -9,15 +9,6 @@ returns-then-out-needed c =
           c.vertices.ensures.sum) yes1;
       written = written_no _ _ _ (shape_length _ _ _ _ _ _ _ c.requires.count_bound c.requires.holes_bound c.requires.holes_value c.requires.outer_len
           c.requires.points_len c.head_size-head.ensures.size c.vertices.ensures.sum) yes1;
-    }
-
-pub put_holes-requires : goal.put_holes-requires
-put_holes-requires c =
-    record {
-      holes_bound = c.requires.holes_bound;
-      holes_value = c.requires.holes_value;
-      points_len = c.requires.points_len;
-      at_bound = place _ _ c.head_size-head.ensures.most c.requires.count_bound;
     }
 
 pub returns : goal.returns

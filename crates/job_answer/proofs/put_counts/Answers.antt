@@ -1,12 +1,10 @@
 -- `job_answer::put_counts` meets its contract. Assumes nothing.
 use borrow.Author.Rules.{rules}
-use Prim.Native.Nat.{◌-◌}
-use mathlib.Core.Path.{refl}
-use Rattle.job_answer.proofs.Parts.{size_more, here_start, here_next, counts_start, counts_end, put_counts_next}
+use Rattle.job_answer.proofs.Parts.{size_more, here_start, here_next, counts_start, put_counts_next}
 use Rattle.job_answer.proofs.put_counts.Goals as goal
 
 pub loop-k-init : goal.loop-k-init
-loop-k-init c = (search rules, search rules, refl, here_start _ _, counts_start _ _ _)
+loop-k-init c = (search rules, here_start _ _, counts_start _ _ _)
 
 pub overflow_add-here : goal.overflow_add-here
 overflow_add-here c = let m = size_more _ _ c.count_size-here.ensures in search rules
@@ -19,12 +17,7 @@ loop-k-preserved c =
     let put-count-gives = c.put_count.ensures in
     let m = size_more _ _ count-size-gives in (
       search rules,
-      search rules,
-      search rules,
-      here_next _ _ _ _ _ _ inv.3 count-at-gives count-size-gives,
+      here_next _ _ _ _ _ _ inv.1 count-at-gives count-size-gives,
       put_counts_next _ _ _ _ _ _ _ _
-          inv.4 inv.3 count-at-gives put-count-gives,
+          inv.2 inv.1 count-at-gives put-count-gives,
     )
-
-pub returns : goal.returns
-returns c = counts_end _ _ _ _ _ _ c.loop-k.invariant.0 c.loop-k-test.false c.loop-k.invariant.4

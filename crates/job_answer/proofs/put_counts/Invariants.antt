@@ -1,5 +1,5 @@
 -- `job_answer::put_counts` meets its contract. Assumes nothing.
-use Prim.Native.Nat.{◌+◌, ◌-◌, ◌*◌, ◌≤◌}
+use Prim.Native.Nat.{◌+◌, ◌*◌, ◌≤◌}
 use mathlib.Core.Path.{◌≡◌}
 use lib.ListN.{length}
 use Rattle.format_digits.specs.Stores.{put}
@@ -7,7 +7,4 @@ use Rattle.job_answer.specs.Writing.{counts_bytes}
 use Rattle.job_answer.proofs.put_counts.Given as goal
 
 abbrev pub invariant-loop-k : goal.invariant-loop-k
-invariant-loop-k l = (l.k ≤ l.holes) × (l.here ≤ l.at + 4 * l.k) × (length l.out ≡ length l.initial.out) × (l.here ≡ l.at + length (counts_bytes l.counts l.k)) × (l.out ≡ put l.initial.out l.at (counts_bytes l.counts l.k))
-
-abbrev pub decreases-loop-k : goal.decreases-loop-k
-decreases-loop-k l = l.holes - l.k
+invariant-loop-k l = (l.here ≤ l.at + 4 * l.k) × (l.here ≡ l.at + length (counts_bytes l.counts l.k)) × (l.out ≡ put l.initial.out l.at (counts_bytes l.counts l.k))

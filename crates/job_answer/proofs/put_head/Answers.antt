@@ -13,13 +13,9 @@ overflow_add-second-2 c =
     let count-size-gives = c.count_size-second.ensures in
     let m = size_more _ _ count-size-gives in let n = size_more _ _ c.count_size.ensures in search rules
 
-pub put_counts-requires : goal.put_counts-requires
-put_counts-requires c =
-    let count-size-gives = c.count_size-second.ensures in
-    let m = size_more _ _ count-size-gives in let n = size_more _ _ c.count_size.ensures in record {
-      holes_bound = search rules;
-      at_bound = search rules;
-    }
+pub put_counts-requires-clause-at_bound : goal.put_counts-requires-clause-at_bound
+put_counts-requires-clause-at_bound c =
+    let m = size_more _ _ c.count_size-second.ensures in let n = size_more _ _ c.count_size.ensures in search rules
 
 pub returns : goal.returns
 returns c =

@@ -1,12 +1,9 @@
 -- `job_answer::vertices` meets its contract. Assumes nothing.
-use Prim.Native.Nat.{◌-◌, ◌*◌, ◌≤◌}
+use Prim.Native.Nat.{◌*◌, ◌≤◌}
 use mathlib.Core.Path.{◌≡◌}
 use Rattle.base.specs.Loop.{rounds}
 use Rattle.job_answer.specs.Writing.{vertices_step}
 use Rattle.job_answer.proofs.vertices.Given as goal
 
 abbrev pub invariant-loop-k : goal.invariant-loop-k
-invariant-loop-k l = (l.k ≤ l.holes) × (l.sum ≤ 32 * l.k) × (l.sum ≡ rounds (vertices_step l.counts) l.k 0)
-
-abbrev pub decreases-loop-k : goal.decreases-loop-k
-decreases-loop-k l = l.holes - l.k
+invariant-loop-k l = (l.sum ≤ 32 * l.k) × (l.sum ≡ rounds (vertices_step l.counts) l.k 0)

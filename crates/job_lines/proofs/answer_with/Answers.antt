@@ -9,7 +9,7 @@ slice_bounds-job-end c =
     let lengths = c.requires.in_bounds in
     let coordinates = c.requires.in_bounds_2 in
     let told = c.if-granted.true in
-    let m = rings_in _ _ _ _ _ _ (c.parse_job-p.ensures.answered, (c.parse_job-p.ensures.counted, c.parse_job-p.ensures.numbered)) _ asked lengths coordinates told in
+    let m = rings_in _ _ _ _ _ _ c.parse_job-p.ensures _ asked lengths coordinates told in
     search rules
 
 pub slice_bounds-job-end-then-granted : goal.slice_bounds-job-end-then-granted
@@ -18,7 +18,7 @@ slice_bounds-job-end-then-granted c =
     let lengths = c.requires.in_bounds in
     let coordinates = c.requires.in_bounds_2 in
     let told = c.if-granted.true in
-    counts_part _ _ (rings_in _ _ _ _ _ _ (c.parse_job-p.ensures.answered, (c.parse_job-p.ensures.counted, c.parse_job-p.ensures.numbered)) _ asked lengths coordinates told)
+    counts_part _ _ (rings_in _ _ _ _ _ _ c.parse_job-p.ensures _ asked lengths coordinates told)
 
 pub slice_bounds-job-end-then-granted-2 : goal.slice_bounds-job-end-then-granted-2
 slice_bounds-job-end-then-granted-2 c =
@@ -26,7 +26,7 @@ slice_bounds-job-end-then-granted-2 c =
     let lengths = c.requires.in_bounds in
     let coordinates = c.requires.in_bounds_2 in
     let told = c.if-granted.true in
-    let m = count_in _ _ _ _ _ _ (c.parse_job-p.ensures.answered, (c.parse_job-p.ensures.counted, c.parse_job-p.ensures.numbered)) _ asked lengths coordinates told in
+    let m = count_in _ _ _ _ _ _ c.parse_job-p.ensures _ asked lengths coordinates told in
     search rules
 
 pub slice_bounds-job-end-then-granted-3 : goal.slice_bounds-job-end-then-granted-3
@@ -35,7 +35,7 @@ slice_bounds-job-end-then-granted-3 c =
     let lengths = c.requires.in_bounds in
     let coordinates = c.requires.in_bounds_2 in
     let told = c.if-granted.true in
-    counts_part _ _ (count_in _ _ _ _ _ _ (c.parse_job-p.ensures.answered, (c.parse_job-p.ensures.counted, c.parse_job-p.ensures.numbered)) _ asked lengths coordinates told)
+    counts_part _ _ (count_in _ _ _ _ _ _ c.parse_job-p.ensures _ asked lengths coordinates told)
 
 pub returns-then-granted : goal.returns-then-granted
 returns-then-granted c =
@@ -44,8 +44,8 @@ returns-then-granted c =
     let coordinates = c.requires.in_bounds_2 in
     let told = c.if-granted.true in
     let worked = c.job-a.ensures in record {
-      answered = given_answered _ _ _ _ _ _ (c.parse_job-p.ensures.answered, (c.parse_job-p.ensures.counted, c.parse_job-p.ensures.numbered)) _ asked lengths coordinates told _ worked _ _ c.answer_bytes.ensures.answered;
-      written = given_written _ _ _ _ _ _ (c.parse_job-p.ensures.answered, (c.parse_job-p.ensures.counted, c.parse_job-p.ensures.numbered)) _ asked lengths coordinates told _ worked _ _ c.answer_bytes.ensures.written;
+      answered = given_answered _ _ _ _ _ _ c.parse_job-p.ensures _ asked lengths coordinates told _ worked _ _ c.answer_bytes.ensures.answered;
+      written = given_written _ _ _ _ _ _ c.parse_job-p.ensures _ asked lengths coordinates told _ worked _ _ c.answer_bytes.ensures.written;
     }
 
 pub returns : goal.returns
@@ -55,6 +55,6 @@ returns c =
     let coordinates = c.requires.in_bounds_2 in
     let told = c.if-granted.false in
     let numbered = c.number.ensures in record {
-      answered = refused_answered _ _ _ _ _ _ (c.parse_job-p.ensures.answered, (c.parse_job-p.ensures.counted, c.parse_job-p.ensures.numbered)) _ asked lengths coordinates told _ _ _ numbered c.no_line.ensures.answered;
-      written = refused_written _ _ _ _ _ _ (c.parse_job-p.ensures.answered, (c.parse_job-p.ensures.counted, c.parse_job-p.ensures.numbered)) _ asked lengths coordinates told _ _ _ numbered c.no_line.ensures.written;
+      answered = refused_answered _ _ _ _ _ _ c.parse_job-p.ensures _ asked lengths coordinates told _ _ _ numbered c.no_line.ensures.answered;
+      written = refused_written _ _ _ _ _ _ c.parse_job-p.ensures _ asked lengths coordinates told _ _ _ numbered c.no_line.ensures.written;
     }

@@ -6,7 +6,7 @@ use Rattle.job_lines.proofs.bytes_needed.Goals as goal
 pub overflow_add-result : goal.overflow_add-result
 overflow_add-result c =
     let args = c.args in
-    let new-gives = c.new-carried.ensures in
+    let new-gives = c.from.ensures in
     let pre = c.requires in
     let m = both_fits args.a _ new-gives pre in
     search rules
@@ -14,7 +14,7 @@ overflow_add-result c =
 pub overflow_add-result-2 : goal.overflow_add-result-2
 overflow_add-result-2 c =
     let args = c.args in
-    let new-gives = c.new-carried.ensures in
+    let new-gives = c.from.ensures in
     let pre = c.requires in
     let m = both_fits args.a _ new-gives pre in
     search rules
@@ -22,5 +22,5 @@ overflow_add-result-2 c =
 pub returns : goal.returns
 returns c =
     let args = c.args in
-    let new-gives = c.new-carried.ensures in
+    let new-gives = c.from.ensures in
     both_told args.a _ new-gives

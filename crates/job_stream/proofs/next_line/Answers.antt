@@ -41,22 +41,22 @@ pub slice_bounds-hold-count-2 : goal.slice_bounds-hold-count-2
 slice_bounds-hold-count-2 c =
     let args = c.args in
     let line-end-gives = c.line_end-stop.ensures in
-    from_in args.block.now _ _ line-end-gives _ c.choose-from.ensures
+    from_in args.block.now _ _ line-end-gives _ c.min-from.ensures
 
 pub slice_bounds-hold-start-2 : goal.slice_bounds-hold-start-2
 slice_bounds-hold-start-2 c =
     let args = c.args in
     let line-end-gives = c.line_end-stop.ensures in
-    let m = from_in args.block.now _ _ line-end-gives _ c.choose-from.ensures in search rules
+    let m = from_in args.block.now _ _ line-end-gives _ c.min-from.ensures in search rules
 
 pub returns : goal.returns
 returns c =
     let args = c.args in
     let line-end-gives = c.line_end-stop.ensures in
-    let choose-gives = c.choose-from.ensures in
+    let min-gives = c.min-from.ensures in
     let no1 = c.if-stop-block.false in
     record {
-      found = cut_next args.block.now _ _ line-end-gives _ choose-gives _ _ no1 c.hold-begun.ensures.counted;
+      found = cut_next args.block.now _ _ line-end-gives _ min-gives _ _ no1 c.hold-begun.ensures.counted;
       held = cut_kept args.block.now _ _ line-end-gives _
-          choose-gives _ _ _ no1 c.hold-begun.ensures.held;
+          min-gives _ _ _ no1 c.hold-begun.ensures.held;
     }

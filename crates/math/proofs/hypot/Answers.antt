@@ -1,7 +1,9 @@
 -- `math::hypot` meets its contract: NaNs apart, the rounded root of the larger and the smaller magnitude. Assumes nothing.
 use mathlib.Core.Path.{◌≡◌, refl, sym, subst, ◌∙◌}
-use mathlib.Core.Bool.{cond}
-use Prim.Native.Nat.{ℕ, ◌≤◌, ◌*◌, ◌^◌}
+use mathlib.Core.Bool.{Bool, true, false, cond}
+use native.Mathlib.Omega.{arith}
+use borrow.Author.Tests.{ltb-true, ltb-false}
+use Prim.Native.Nat.{ℕ, ◌≤◌, ◌*◌, ◌^◌, min, max}
 use lib.Dec.{T, ltb}
 use lib.Ieee.{Float, binary64, fits}
 use Rattle.hypotenuse.specs.Hypot.{hypot}
@@ -15,6 +17,14 @@ held_x c = subst T (sym c.well_formed.0.1) tt
 
 held-y : (c : Start) → T (fits binary64 c.args.y)
 held-y c = subst T (sym c.well_formed.1.0.1) tt
+
+max_is : (a b : ℕ) (t : Bool) → ltb a b ≡ t → max a b ≡ cond t b a
+max_is a b true e = let h = ltb-true a b e in omega arith
+max_is a b false e = let h = ltb-false a b e in omega arith
+
+min_is : (a b : ℕ) (t : Bool) → ltb a b ≡ t → min a b ≡ cond t a b
+min_is a b true e = let h = ltb-true a b e in omega arith
+min_is a b false e = let h = ltb-false a b e in omega arith
 
 module _ (c : After-magnitude-b) where
   abbrev start : Start
@@ -66,15 +76,16 @@ pub of_magnitudes-requires : goal.of_magnitudes-requires
 of_magnitudes-requires c =
     let past-here = c.before.before in
     let both = order past-here in
-    record { b_le_a = rw (c.pick-high.ensures, c.pick-low.ensures) both.0; a_bound = rw c.pick-high.ensures both.1 }
+    record {
+      b_le_a = rw (c.max.ensures, c.min.ensures, max_is _ _ _ refl, min_is _ _ _ refl) both.0;
+      a_bound = rw (c.max.ensures, max_is _ _ _ refl) both.1;
+    }
 
 pub returns : goal.returns
 returns c =
     let past-here = c.before.before.before in
-    let of-magnitudes-result = c.of_magnitudes.result in
-    let pick_gives = c.pick-high.ensures in
-    let pick-result = c.pick-high.result in
-    let pick2-gives = c.pick-low.ensures in
+    let high = c.max.ensures ∙ max_is (a past-here) (b past-here) _ refl in
+    let low = c.min.ensures ∙ min_is (a past-here) (b past-here) _ refl in
     root past-here _
-    (subst (λ (h : ℕ). Larger h (cond (ltb (a past-here) (b past-here)) (a past-here) (b past-here)) of-magnitudes-result) pick_gives
-    (subst (λ (l : ℕ). Larger pick-result l of-magnitudes-result) pick2-gives c.of_magnitudes.ensures))
+    (subst (λ (h : ℕ). Larger h (cond (ltb (a past-here) (b past-here)) (a past-here) (b past-here)) c.of_magnitudes.result) high
+    (subst (λ (l : ℕ). Larger c.max.result l c.of_magnitudes.result) low c.of_magnitudes.ensures))

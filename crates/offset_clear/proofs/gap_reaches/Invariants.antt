@@ -1,5 +1,4 @@
 -- `offset_clear::gap_reaches` meets its contract. Assumes nothing.
-use Prim.Native.Nat.{◌-◌, ◌≤◌}
 use mathlib.Core.Path.{◌≡◌}
 use mathlib.Core.Bool.{false}
 use Rattle.base.specs.Loop.{rounds}
@@ -8,7 +7,4 @@ use Rattle.offset_clear.proofs.Folds.{short_step}
 use Rattle.offset_clear.proofs.gap_reaches.Given as goal
 
 abbrev pub invariant-loop-k : goal.invariant-loop-k
-invariant-loop-k l = (l.k ≤ l.n) × (l.a ≡ start l.ps l.n l.k) × (rounds (short_step l.ps l.n l.p l.least) l.k false ≡ false)
-
-abbrev pub decreases-loop-k : goal.decreases-loop-k
-decreases-loop-k l = l.n - l.k
+invariant-loop-k l = (l.a ≡ start l.ps l.n l.k) × (rounds (short_step l.ps l.n l.p l.least) l.k false ≡ false)

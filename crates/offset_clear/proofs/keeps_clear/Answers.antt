@@ -1,33 +1,31 @@
 -- `offset_clear::keeps_clear` meets its contract. Assumes nothing.
 use borrow.Author.Rules.{rules}
-use Prim.Native.Nat.{◌-◌}
-use mathlib.Core.Path.{sym}
-use mathlib.Core.Bool.{true}
-use Rattle.base.proofs.Laws.{no_round}
-use Rattle.offset_clear.proofs.FirstShort.{vertex_passes, vertex_fails, all_pass}
+use borrow.Author.Tests.{tests}
+use Prim.Native.Nat.{ℕ}
+use mathlib.Core.Bool.{Bool, not}
+use mathlib.Core.List.{List}
+use mathlib.Core.Path.{refl, sym, ap, ◌∙◌}
+use lib.Ieee.{Float}
+use Rattle.ring.specs.Ring.{vertex_at}
+use Rattle.offset.specs.Clear.{every_step, every_vertex}
+use Rattle.offset.proofs.Chains.{all_told}
+use Rattle.offset_clear.specs.Rings.{clear_by}
+use Rattle.offset_clear.proofs.FirstShort.{and_right, and_wrong}
 use Rattle.offset_clear.proofs.keeps_clear.Goals as goal
 
-pub loop-k-init : goal.loop-k-init
-loop-k-init c = (search rules, no_round _ _)
+abbrev test : Bool → Bool → Float → List Float → ℕ → List Float → ℕ → Bool
+test foot outward least ps n qs k = clear_by foot outward least ps n (vertex_at qs k)
 
-pub returns-then-not-clear_of : goal.returns-then-not-clear_of
-returns-then-not-clear_of c =
-    let inv = c.loop-k.invariant in
-    let going = c.loop-k-test.true in
-    let vertex-at-gives = c.vertex_at-q.ensures in
-    let clear-of-gives = c.clear_of.ensures in
-    sym
-    (vertex_fails _ _ _ inv.1 _ going _ _ vertex-at-gives clear-of-gives
-    c.if-not-clear_of.true-raw)
+pub returns-then-clear : goal.returns-then-clear
+unfolding every_vertex every_step
+returns-then-clear c =
+    let a = c.args in
+    let all = all_told _ (test a.foot a.outward a.least a.ps.now a.n a.qs.now) (λ k s. refl) a.m _ _ _ c.all-clear.ensures.ran (λ x b q k. search (rules, tests)) in
+    and_right _ _ _ (sym all ∙ c.if-clear.true) (ap not c.rings_meet.ensures)
 
-pub loop-k-preserved : goal.loop-k-preserved
-loop-k-preserved c =
-    let inv = c.loop-k.invariant in
-    let vertex-at-gives = c.vertex_at-q.ensures in
-    let clear-of-gives = c.clear_of.ensures in (
-      search rules,
-      vertex_passes _ _ _ inv.1 _ _ vertex-at-gives clear-of-gives c.if-not-clear_of.false-raw,
-    )
-
-pub returns : goal.returns
-returns c = sym (all_pass _ _ _ c.loop-k.invariant.1 _ c.loop-k.invariant.0 c.loop-k-test.false)
+pub returns-else-clear : goal.returns-else-clear
+unfolding every_vertex every_step
+returns-else-clear c =
+    let a = c.args in
+    let all = all_told _ (test a.foot a.outward a.least a.ps.now a.n a.qs.now) (λ k s. refl) a.m _ _ _ c.all-clear.ensures.ran (λ x b q k. search (rules, tests)) in
+    c.if-clear.false ∙ and_wrong _ _ (sym all ∙ c.if-clear.false)

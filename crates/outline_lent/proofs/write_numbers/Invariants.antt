@@ -1,13 +1,8 @@
 -- `outline_lent::write_numbers` meets its contract. Assumes nothing.
-use Prim.Native.Nat.{◌-◌, ◌≤◌}
 use mathlib.Core.Path.{◌≡◌}
-use lib.ListN.{length}
 use Rattle.base.specs.Loop.{rounds}
 use Rattle.outline_lent.specs.Writes.{write_step}
 use Rattle.outline_lent.proofs.write_numbers.Given as goal
 
 abbrev pub invariant-loop-k : goal.invariant-loop-k
-invariant-loop-k l = (l.k ≤ l.count) × (length l.out ≡ length l.initial.out) × (l.out ≡ rounds (write_step l.ps 0) l.k l.initial.out)
-
-abbrev pub decreases-loop-k : goal.decreases-loop-k
-decreases-loop-k l = l.count - l.k
+invariant-loop-k l = l.out ≡ rounds (write_step l.ps 0) l.k l.initial.out

@@ -1,10 +1,12 @@
 -- `outline_sizes::met_by` meets its contract. Assumes nothing.
-use mathlib.Core.Path.{◌∙◌}
-use Rattle.outline_sizes.proofs.Paired.{apart_by, edges_by}
+use mathlib.Core.Path.{refl}
+use Rattle.outline_ask.specs.Queries
 use Rattle.outline_sizes.proofs.met_by.Goals as goal
 
-pub returns-in-Apart : goal.returns-in-Apart
-returns-in-Apart c = c.unmet.ensures ∙ apart_by _ _ c.in-Apart.is
+pub returns-in-None : goal.returns-in-None
+unfolding Queries.met_by
+returns-in-None c = rw c.in-None.is c.unmet.ensures
 
-pub returns-in-Edges : goal.returns-in-Edges
-returns-in-Edges c = edges_by _ _ _ _ c.in-Edges.is
+pub returns-in-Some : goal.returns-in-Some
+unfolding Queries.met_by
+returns-in-Some c = rw c.in-Some.is refl

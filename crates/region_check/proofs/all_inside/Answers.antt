@@ -1,33 +1,19 @@
 -- `region_check::all_inside` meets its contract. Assumes nothing.
 use borrow.Author.Rules.{rules}
-use Prim.Native.Nat.{◌-◌}
-use mathlib.Core.Path.{sym}
-use mathlib.Core.Bool.{true}
-use Rattle.base.proofs.Laws.{no_round}
-use Rattle.offset_clear.proofs.FirstShort.{vertex_passes, vertex_fails, all_pass}
+use borrow.Author.Tests.{tests}
+use Prim.Native.Nat.{ℕ}
+use mathlib.Core.Bool.{false}
+use mathlib.Core.Path.{refl}
+use Rattle.ring.specs.Ring.{vertex_at}
+use Rattle.ring_contain.specs.Contains.{ring_contains}
+use Rattle.offset.specs.Clear.{right_side, every_step, every_vertex}
+use Rattle.offset.proofs.Chains.{all_told}
+use Rattle.region.specs.Checks
 use Rattle.region_check.proofs.all_inside.Goals as goal
 
-pub loop-k-init : goal.loop-k-init
-loop-k-init c = (search rules, no_round _ _)
-
-pub returns-then-not-inside_of : goal.returns-then-not-inside_of
-returns-then-not-inside_of c =
-    let inv = c.loop-k.invariant in
-    let going = c.loop-k-test.true in
-    let vertex-at-gives = c.vertex_at-q.ensures in
-    let inside-of-gives = c.inside_of.ensures in
-    sym
-    (vertex_fails _ _ _ inv.1 _ going _ _ vertex-at-gives inside-of-gives
-    c.if-not-inside_of.true-raw)
-
-pub loop-k-preserved : goal.loop-k-preserved
-loop-k-preserved c =
-    let inv = c.loop-k.invariant in
-    let vertex-at-gives = c.vertex_at-q.ensures in
-    let inside-of-gives = c.inside_of.ensures in (
-      search rules,
-      vertex_passes _ _ _ inv.1 _ _ vertex-at-gives inside-of-gives c.if-not-inside_of.false-raw,
-    )
-
 pub returns : goal.returns
-returns c = sym (all_pass _ _ _ c.loop-k.invariant.1 _ c.loop-k.invariant.0 c.loop-k-test.false)
+unfolding every_vertex every_step Checks.inside_of right_side
+returns c =
+    let a = c.args in
+    let test = λ (k : ℕ). right_side false (ring_contains a.ps.now a.n (vertex_at a.qs.now k)) in
+    all_told _ test (λ k s. refl) a.m _ _ _ c.all.ensures.ran (λ x b q k. search (rules, tests))

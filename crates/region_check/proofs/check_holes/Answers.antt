@@ -1,25 +1,23 @@
 -- `region_check::check_holes` meets its contract. Assumes nothing.
-use borrow.Author.Rules.{rules}
-use Prim.Native.Nat.{◌-◌}
 use Rattle.base.proofs.Laws.{no_round}
 use Rattle.region_check.proofs.FirstRefusal.{hole_fits_on, hole_outside, holes_fit}
 use Rattle.region_check.proofs.check_holes.Goals as goal
 
 pub loop-k-init : goal.loop-k-init
-loop-k-init c = (search rules, no_round _ _)
+loop-k-init c = no_round _ _
 
 pub returns-then-not-hole_fits : goal.returns-then-not-hole_fits
 returns-then-not-hole_fits c =
     let inv = c.loop-k.invariant in
     let going = c.loop-k-test.true in
     let hole-fits-gives = c.hole_fits.ensures in
-    hole_outside _ _ _ _ _ _ inv.1 going _ hole-fits-gives c.if-not-hole_fits.true-raw
+    hole_outside _ _ _ _ _ _ inv going _ hole-fits-gives c.if-not-hole_fits.true-raw
 
 pub loop-k-preserved : goal.loop-k-preserved
 loop-k-preserved c =
     let inv = c.loop-k.invariant in
     let hole-fits-gives = c.hole_fits.ensures in
-    (search rules, hole_fits_on _ _ _ _ _ _ inv.1 _ hole-fits-gives c.if-not-hole_fits.false-raw)
+    hole_fits_on _ _ _ _ _ _ inv _ hole-fits-gives c.if-not-hole_fits.false-raw
 
 pub returns : goal.returns
-returns c = holes_fit _ _ _ _ _ _ c.loop-k.invariant.1 c.loop-k.invariant.0 c.loop-k-test.false
+returns c = holes_fit _ _ _ _ _ _ c.loop-k.invariant c.loop-k.auto.k-end c.loop-k-test.false

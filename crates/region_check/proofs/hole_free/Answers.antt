@@ -7,11 +7,8 @@ use Rattle.region_check.proofs.hole_free.Goals as goal
 
 pub returns-then-all_inside : goal.returns-then-all_inside
 unfolding Checks.hole_free
-returns-then-all_inside c =
-    let all-inside-gives = c.all_inside.ensures in
-    let yes1 = c.if-all_inside.true in
-    and_right _ _ _ (sym all-inside-gives ∙ yes1) (ap not c.rings_meet.ensures)
+returns-then-all_inside c = and_right _ _ _ (sym c.all_inside.ensures ∙ c.if-all_inside.true) (ap not c.rings_meet.ensures)
 
-pub returns : goal.returns
+pub returns-else-all_inside : goal.returns-else-all_inside
 unfolding Checks.hole_free
-returns c = and_wrong _ _ (sym c.all_inside.ensures ∙ c.if-all_inside.false)
+returns-else-all_inside c = c.if-all_inside.false ∙ and_wrong _ _ (sym c.all_inside.ensures ∙ c.if-all_inside.false)

@@ -11,6 +11,6 @@ returns c =
     let no1 = c.if-rings_meet.false in
     let vertex-at-gives = c.vertex_at-first.ensures in
     let vertex-at2-gives = c.vertex_at-second.ensures in
-    let outside-of-gives = c.outside_of.ensures in
+    let outside-of-gives = c.lies.ensures in
     one_holds _ _ _ _ _ rings-meet-gives no1 _ _ _ _ vertex-at-gives vertex-at2-gives outside-of-gives
-    c.outside_of-2.ensures
+    c.lies-2.ensures

@@ -7,7 +7,4 @@ use Rattle.region_lent.specs.Rings.{counts_of_step}
 use Rattle.region_lent.proofs.ring_counts.Given as goal
 
 abbrev pub invariant-loop-k : goal.invariant-loop-k
-invariant-loop-k l = (l.k ≤ l.h + 1) × (length l.counts ≡ 9) × (l.counts ≡ rounds (counts_of_step l.n l.cs) l.k (replicate 9 0))
-
-abbrev pub decreases-loop-k : goal.decreases-loop-k
-decreases-loop-k l = l.h + 1 - l.k
+invariant-loop-k l = (length l.counts ≡ 9) × (l.counts ≡ rounds (counts_of_step l.n l.cs) l.k (replicate 9 0))

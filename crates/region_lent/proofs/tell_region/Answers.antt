@@ -8,15 +8,15 @@ use Rattle.region_lent.proofs.tell_region.Goals as goal
 pub returns-then-not-proper_region : goal.returns-then-not-proper_region
 returns-then-not-proper_region c = told_no _ _ c.proper_region.ensures _ c.if-not-proper_region.true-raw c.no_rings.ensures
 
-pub ring_counts-counts-requires : goal.ring_counts-counts-requires
-ring_counts-counts-requires c = (few_by _ _ _ _ _ _ c.proper_region.ensures c.if-not-proper_region.false-raw).holes
+pub ring_counts-requires : goal.ring_counts-requires
+ring_counts-requires c = (few_by _ _ _ _ _ _ c.proper_region.ensures c.if-not-proper_region.false-raw).holes
 
-pub overflow_add-rings : goal.overflow_add-rings
-overflow_add-rings c =
+pub overflow_add-result : goal.overflow_add-result
+overflow_add-result c =
     let args = c.args in
     let f : Few args.n args.cs.now args.h = few_by _ _ _ _ _ _ c.proper_region.ensures c.if-not-proper_region.false-raw in
     let l : args.h ≤ 8 = f.holes in
     search rules
 
 pub returns : goal.returns
-returns c = told_yes _ _ c.proper_region.ensures _ c.if-not-proper_region.false-raw (told_by _ _ _ _ _ _ c.ring_counts-counts.ensures)
+returns c = told_yes _ _ c.proper_region.ensures _ c.if-not-proper_region.false-raw (told_by _ _ _ _ _ _ c.ring_counts.ensures)

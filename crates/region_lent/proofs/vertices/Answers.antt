@@ -9,7 +9,7 @@ use Rattle.region_lent.proofs.vertices.Goals as goal
 
 pub loop-k-init : goal.loop-k-init
 unfolding before_of
-loop-k-init c = (search rules, sym (no_round _ _))
+loop-k-init c = sym (no_round _ _)
 
 pub overflow_add-s : goal.overflow_add-s
 overflow_add-s c =
@@ -17,13 +17,13 @@ overflow_add-s c =
     let pre = c.requires in
     let going = c.loop-k-test.true in
     let inv = c.loop-k.invariant in
-    let l : loop-s + c.ring_count-s.result ≤ 1280 = sum_bound _ _ _ pre _ _ _ going inv.1 c.ring_count-s.ensures in search rules
+    let l : loop-s + c.ring_count-s.result ≤ 1280 = sum_bound _ _ _ pre _ _ _ going inv c.ring_count-s.ensures in search rules
 
 pub loop-k-preserved : goal.loop-k-preserved
 loop-k-preserved c =
     let inv = c.loop-k.invariant in
-    (search rules, before_on _ _ _ _ c.ring_count-s.ensures _ inv.1)
+    before_on _ _ _ _ c.ring_count-s.ensures _ inv
 
 pub returns : goal.returns
 unfolding before_of
-returns c = ends _ _ _ _ _ c.loop-k.invariant.0 c.loop-k-test.false c.loop-k.invariant.1
+returns c = ends _ _ _ _ _ c.loop-k.auto.k-end c.loop-k-test.false c.loop-k.invariant

@@ -5,7 +5,4 @@ use Rattle.region_lent.specs.Rings.{before_of}
 use Rattle.region_lent.proofs.vertices.Given as goal
 
 abbrev pub invariant-loop-k : goal.invariant-loop-k
-invariant-loop-k l = (l.k ≤ l.h + 1) × (l.s ≡ before_of l.n l.cs l.k)
-
-abbrev pub decreases-loop-k : goal.decreases-loop-k
-decreases-loop-k l = l.h + 1 - l.k
+invariant-loop-k l = l.s ≡ before_of l.n l.cs l.k

@@ -11,7 +11,7 @@ use Rattle.region_lent.proofs.write_rings.Goals as goal
 
 pub loop-k-init : goal.loop-k-init
 unfolding before_of
-loop-k-init c = (search rules, ap (λ (x : ℕ). 2 * x) (sym (no_round _ 0)), refl, sym (no_round _ _))
+loop-k-init c = (ap (λ (x : ℕ). 2 * x) (sym (no_round _ 0)), refl, sym (no_round _ _))
 
 pub overflow_mul-count : goal.overflow_mul-count
 overflow_mul-count c =
@@ -27,7 +27,7 @@ overflow_add-base c =
     let going = c.loop-k-test.true in
     let inv = c.loop-k.invariant in
     let ring-count-gives = c.ring_count-count.ensures in
-    let l : loop-base + 2 * ring-count-result ≤ 2560 = base_bound _ _ _ pre _ _ _ going inv.1 ring-count-gives in search rules
+    let l : loop-base + 2 * ring-count-result ≤ 2560 = base_bound _ _ _ pre _ _ _ going inv.0 ring-count-gives in search rules
 
 pub loop-k-preserved : goal.loop-k-preserved
 loop-k-preserved c =
@@ -35,13 +35,12 @@ loop-k-preserved c =
     let ring-count-gives = c.ring_count-count.ensures in
     let write-from-gives = c.write_from.ensures in
     let ring-points-gives = c.ring_points-ring.ensures in (
-      search rules,
-      base_on _ _ _ _ _ inv.1 ring-count-gives,
-      same_size _ _ _ _ _ write-from-gives ∙ inv.2,
+      base_on _ _ _ _ _ inv.0 ring-count-gives,
+      same_size _ _ _ _ _ write-from-gives ∙ inv.1,
       rings_on _ _ _ _ _ _ _ _ _ _ _ _
-          inv.1 ring-count-gives ring-points-gives inv.3 write-from-gives,
+          inv.0 ring-count-gives ring-points-gives inv.2 write-from-gives,
     )
 
 pub returns : goal.returns
 unfolding write_rings region_of
-returns c = ends _ _ _ _ _ c.loop-k.invariant.0 c.loop-k-test.false c.loop-k.invariant.3
+returns c = ends _ _ _ _ _ c.loop-k.auto.k-end c.loop-k-test.false c.loop-k.invariant.2

@@ -9,7 +9,4 @@ use Rattle.region_lent.specs.Rings.{before_of}
 use Rattle.region_lent.proofs.write_rings.Given as goal
 
 abbrev pub invariant-loop-k : goal.invariant-loop-k
-invariant-loop-k l = (l.k ≤ l.h + 1) × (l.base ≡ 2 * before_of l.n l.cs l.k) × (length l.out ≡ length l.initial.out) × (l.out ≡ rounds (write_rings_step (region_of l.ps l.n l.hs l.cs l.h)) l.k l.initial.out)
-
-abbrev pub decreases-loop-k : goal.decreases-loop-k
-decreases-loop-k l = l.h + 1 - l.k
+invariant-loop-k l = (l.base ≡ 2 * before_of l.n l.cs l.k) × (length l.out ≡ length l.initial.out) × (l.out ≡ rounds (write_rings_step (region_of l.ps l.n l.hs l.cs l.h)) l.k l.initial.out)

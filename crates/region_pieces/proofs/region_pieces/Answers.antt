@@ -1,50 +1,29 @@
 -- `region_pieces::region_pieces` meets its contract. Assumes nothing.
 use borrow.Author.Rules.{rules}
-use borrow.Author.Count.{falls}
-use Prim.Native.Nat.{◌-◌}
-use mathlib.Core.Path.{refl, sym}
-use native.Mathlib.Numerals.{add-one-le}
 use Rattle.offset_pieces.proofs.Visited.{one_more}
-use Rattle.region_given.proofs.Filed.{filed_as, filed_length}
-use Rattle.region_pieces.proofs.SlotRounds.{none_made, below_eight, hole_base, hole_placed, passes_on, shrinks, fails, no_place, keeps_outer, keeps_hole, all_passed}
+use Rattle.region_pieces.proofs.SlotRounds.{none_made, below_eight, hole_placed, passes_on, shrinks, fails, no_place, keeps_outer, keeps_hole, all_passed}
 use Rattle.region_pieces.proofs.region_pieces.Goals as goal
+use Rattle.region_pieces.proofs.region_pieces.Goals.{then-e-seen+in-Shrunk, then-e-seen+in-Whole+else-not-granted+then-outer, then-e-seen+in-Whole+else-not-granted+else-outer, else-e-seen}
 
-pub loop-first-init : goal.loop-first-init
-loop-first-init c = (search rules, search rules, search rules, refl, none_made _ _ c.no_outline-ring.ensures)
-
-pub loop-first-preserved-in-Shrunk : goal.loop-first-preserved-in-Shrunk
-loop-first-preserved-in-Shrunk c =
-    let going = c.loop-first-test.true in
-    let inv = c.loop-first.invariant in
-    let yes1 = c.if-e-seen.true in
-    let walk-gives = c.walk-w.ensures in
-    let signed-area-gives = c.signed_area-outer.ensures in
-    let choose-gives = c.choose-room.ensures in
-    let offset-piece-gives = c.offset_piece-piece.ensures in (
-      add-one-le going,
-      one_more _ _ inv.1,
-      inv.2,
-      inv.3,
-      shrinks _ _ _ _ _ _ _ _ _ _ _ _ going inv.4 _ _ _ _ yes1 walk-gives
-          signed-area-gives choose-gives offset-piece-gives c.in-Shrunk.is,
-    )
+pub loop-slot-init : goal.loop-slot-init
+loop-slot-init c = (search rules, search rules, none_made _ _ c.no_outline-ring.ensures)
 
 pub returns-in-Failed : goal.returns-in-Failed
 returns-in-Failed c =
-    let going = c.loop-first-test.true in
-    let inv = c.loop-first.invariant in
+    let going = c.loop-slot-test.true in
+    let inv = c.loop-slot.invariant in
     let yes1 = c.if-e-seen.true in
     let walk-gives = c.walk-w.ensures in
     let signed-area-gives = c.signed_area-outer.ensures in
     let choose-gives = c.choose-room.ensures in
     let offset-piece-gives = c.offset_piece-piece.ensures in
-    fails _ _ _ _ _ _ _ _ _ _ _ _ going inv.4 _ _ _ _ yes1 walk-gives signed-area-gives choose-gives offset-piece-gives _ _ c.in-Failed.is
+    fails _ _ _ _ _ _ _ _ _ _ _ _ going inv.2 _ _ _ _ yes1 walk-gives signed-area-gives choose-gives offset-piece-gives _ _ c.in-Failed.is
     c.region_pieces_refused.ensures
 
 pub returns-then-not-granted : goal.returns-then-not-granted
 returns-then-not-granted c =
-    let going = c.loop-first-test.true in
-    let inv = c.loop-first.invariant in
+    let going = c.loop-slot-test.true in
+    let inv = c.loop-slot.invariant in
     let yes1 = c.if-e-seen.true in
     let walk-gives = c.walk-w.ensures in
     let signed-area-gives = c.signed_area-outer.ensures in
@@ -53,64 +32,8 @@ returns-then-not-granted c =
     let place-refusal-gives = c.place_refusal-r.ensures in
     let granted-gives = c.granted.ensures in
     let yes2 = c.if-not-granted.true-raw in
-    no_place _ _ _ _ _ _ _ _ _ _ _ _ going inv.4 _ _ _ _ yes1 walk-gives signed-area-gives choose-gives offset-piece-gives _ _ c.in-Whole.is _
+    no_place _ _ _ _ _ _ _ _ _ _ _ _ going inv.2 _ _ _ _ yes1 walk-gives signed-area-gives choose-gives offset-piece-gives _ _ c.in-Whole.is _
     _ place-refusal-gives granted-gives _ yes2 c.region_pieces_refused-then-not-granted.ensures
-
-pub loop-first-smaller-then-outer : goal.loop-first-smaller-then-outer
-loop-first-smaller-then-outer c =
-    let going = c.loop-first-test.true in
-    falls _ _ going
-
-pub loop-first-preserved-then-outer : goal.loop-first-preserved-then-outer
-loop-first-preserved-then-outer c =
-    let going = c.loop-first-test.true in
-    let inv = c.loop-first.invariant in
-    let yes1 = c.if-e-seen.true in
-    let walk-gives = c.walk-w.ensures in
-    let signed-area-gives = c.signed_area-outer.ensures in
-    let choose-gives = c.choose-room.ensures in
-    let offset-piece-gives = c.offset_piece-piece.ensures in
-    let place-refusal-gives = c.place_refusal-r.ensures in
-    let granted-gives = c.granted.ensures in
-    let no2 = c.if-not-granted.false-raw in
-    let yes3 = c.if-outer.true in (
-      add-one-le going,
-      one_more _ _ inv.1,
-      inv.2,
-      inv.3,
-      keeps_outer _ _ _ _ _ _ _ _ _ _ _ _ going inv.4 _ _ _ _ yes1 walk-gives
-          signed-area-gives choose-gives offset-piece-gives _ _ c.in-Whole.is _ _ place-refusal-gives granted-gives _ no2 yes3
-          c.stored_outline-stored.ensures,
-    )
-
-pub overflow_mul-held : goal.overflow_mul-held
-overflow_mul-held c =
-    let place-refusal-gives = c.place_refusal-r.ensures in
-    let granted-gives = c.granted.ensures in
-    let no2 = c.if-not-granted.false-raw in
-    let no3 = c.if-outer.false in
-    search (rules, hole_placed _ _ _ _ _ _ place-refusal-gives granted-gives no2 no3)
-
-pub slice_bounds-file_ring-end-else-outer : goal.slice_bounds-file_ring-end-else-outer
-slice_bounds-file_ring-end-else-outer c =
-    let inv = c.loop-first.invariant in
-    sym inv.3
-
-pub offset_bounds-counts-held : goal.offset_bounds-counts-held
-offset_bounds-counts-held c =
-    let place-refusal-gives = c.place_refusal-r.ensures in
-    let granted-gives = c.granted.ensures in
-    let no2 = c.if-not-granted.false-raw in
-    let no3 = c.if-outer.false in
-    search (rules, hole_placed _ _ _ _ _ _ place-refusal-gives granted-gives no2 no3)
-
-pub bounds-counts-held : goal.bounds-counts-held
-bounds-counts-held c =
-    let place-refusal-gives = c.place_refusal-r.ensures in
-    let granted-gives = c.granted.ensures in
-    let no2 = c.if-not-granted.false-raw in
-    let no3 = c.if-outer.false in
-    search (rules, hole_placed _ _ _ _ _ _ place-refusal-gives granted-gives no2 no3)
 
 pub overflow_add-held : goal.overflow_add-held
 overflow_add-held c =
@@ -120,39 +43,40 @@ overflow_add-held c =
     let no3 = c.if-outer.false in
     search (rules, hole_placed _ _ _ _ _ _ place-refusal-gives granted-gives no2 no3)
 
-pub loop-first-smaller-else-outer : goal.loop-first-smaller-else-outer
-loop-first-smaller-else-outer c =
-    let going = c.loop-first-test.true in
-    falls _ _ going
-
-pub loop-first-preserved-else-outer : goal.loop-first-preserved-else-outer
-loop-first-preserved-else-outer c =
-    let going = c.loop-first-test.true in
-    let inv = c.loop-first.invariant in
-    let place-refusal-gives = c.place_refusal-r.ensures in
-    let granted-gives = c.granted.ensures in
-    let no2 = c.if-not-granted.false-raw in
-    let no3 = c.if-outer.false in
-    let file-ring-gives = c.file_ring.ensures in
-    let yes1 = c.if-e-seen.true in
-    let walk-gives = c.walk-w.ensures in
-    let signed-area-gives = c.signed_area-outer.ensures in
-    let choose-gives = c.choose-room.ensures in
-    let offset-piece-gives = c.offset_piece-piece.ensures in (
-      add-one-le going,
-      one_more _ _ inv.1,
-      one_more _ 7 (below_eight _ (hole_placed _ _ _ _ _ _ place-refusal-gives granted-gives no2 no3)),
-      filed_length _ _ _ _ _ _ file-ring-gives (hole_base _ (hole_placed _ _ _ _ _ _ place-refusal-gives granted-gives no2 no3)) inv.3,
-      keeps_hole _ _ _ _ _ _ _ _ _ _ _ _ going inv.4 _ _ _ _ yes1 walk-gives signed-area-gives choose-gives offset-piece-gives _ _
-          c.in-Whole.is _ _ place-refusal-gives granted-gives _ (hole_placed _ _ _ _ _ _ place-refusal-gives granted-gives no2 no3) no3
-          (filed_as _ _ _ _ _ _ file-ring-gives (hole_base _ (hole_placed _ _ _ _ _ _ place-refusal-gives granted-gives no2 no3)) inv.3),
-    )
-
-pub loop-first-preserved : goal.loop-first-preserved
-loop-first-preserved c =
-    let inv = c.loop-first.invariant in
-    let going = c.loop-first-test.true in
-    (search rules, search rules, inv.2, inv.3, passes_on _ _ _ _ _ _ _ _ _ _ _ _ going inv.4 c.if-e-seen.false)
-
 pub returns : goal.returns
-returns c = all_passed _ _ _ _ _ _ _ _ c.loop-first.invariant.0 c.loop-first-test.false c.loop-first.invariant.4
+returns c = all_passed _ _ _ _ _ _ _ _ c.loop-slot.auto.slot-end c.loop-slot-test.false c.loop-slot.invariant.2
+
+pub loop-slot-preserved : goal.loop-slot-preserved
+loop-slot-preserved c =
+    let inv = c.loop-slot.invariant in
+    let going = c.loop-slot-test.true in
+    elim c.if-e-seen.branch [
+      | then-e-seen+in-Shrunk w ↦
+          rw (w.found-is, w.ring-is, w.points-is, w.counts-is, w.held-is, w.place-is, w.seen-is) (
+            one_more _ _ inv.0,
+            inv.1,
+            shrinks _ _ _ _ _ _ _ _ _ _ _ _ going inv.2 _ _ _ _ w.if-e-seen.true w.walk-w.ensures
+                w.signed_area-outer.ensures w.choose-room.ensures w.offset_piece-piece.ensures w.in-Shrunk.is,
+          )
+      | then-e-seen+in-Whole+else-not-granted+then-outer w ↦
+          rw (w.found-is, w.ring-is, w.points-is, w.counts-is, w.held-is, w.place-is, w.seen-is) (
+            one_more _ _ inv.0,
+            inv.1,
+            keeps_outer _ _ _ _ _ _ _ _ _ _ _ _ going inv.2 _ _ _ _ w.if-e-seen.true w.walk-w.ensures
+                w.signed_area-outer.ensures w.choose-room.ensures w.offset_piece-piece.ensures _ _ w.in-Whole.is _ _ w.place_refusal-r.ensures
+                w.granted.ensures _ w.if-not-granted.false-raw w.if-outer.true w.stored_outline-ring.ensures,
+          )
+      | then-e-seen+in-Whole+else-not-granted+else-outer w ↦
+          let free = hole_placed _ _ _ _ _ _ w.place_refusal-r.ensures w.granted.ensures w.if-not-granted.false-raw w.if-outer.false in
+          let put = w.put_hole.ensures in
+          rw (w.found-is, w.ring-is, w.points-is, w.counts-is, w.held-is, w.place-is, w.seen-is) (
+            one_more _ _ inv.0,
+            one_more _ 7 (below_eight _ free),
+            keeps_hole _ _ _ _ _ _ _ _ _ _ _ _ going inv.2 _ _ _ _ w.if-e-seen.true w.walk-w.ensures
+                w.signed_area-outer.ensures w.choose-room.ensures w.offset_piece-piece.ensures _ _ w.in-Whole.is _ _ w.place_refusal-r.ensures
+                w.granted.ensures _ _ free w.if-outer.false put.numbers put.vertices,
+          )
+      | else-e-seen w ↦
+          rw (w.found-is, w.ring-is, w.points-is, w.counts-is, w.held-is, w.place-is, w.seen-is)
+          (search rules, inv.1, passes_on _ _ _ _ _ _ _ _ _ _ _ _ going inv.2 w.if-e-seen.false)
+    ]

@@ -6,4 +6,4 @@ use Rattle.region_point.proofs.closest_boundary_point.Goals as goal
 
 pub returns : goal.returns
 unfolding gap_from
-returns c = ap (λ (x : Nearest). x.foot) c.region_nearest-near.ensures
+returns c = ap (λ (x : Nearest). x.foot) c.region_nearest.ensures

@@ -5,7 +5,7 @@ use Rattle.region_point.proofs.contains_step.Goals as goal
 pub returns-in-Inside : goal.returns-in-Inside
 returns-in-Inside c =
     let arm = c.in-Inside.is in
-    let count-at-gives = c.count_at-n.ensures in
+    let count-at-gives = c.count_at.ensures in
     let hole-points-gives = c.hole_points-hole.ensures in
     let ring-contains-gives = c.ring_contains.ensures in
     asks_hole _ _ _ _ _ _ _ _ arm count-at-gives hole-points-gives ring-contains-gives c.in_hole.ensures

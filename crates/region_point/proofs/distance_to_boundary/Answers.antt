@@ -7,4 +7,4 @@ use Rattle.region_point.proofs.distance_to_boundary.Goals as goal
 
 pub returns : goal.returns
 unfolding gap_from Regions.distance_to_boundary
-returns c = ap (λ (x : Nearest). x.gap) c.region_nearest-near.ensures
+returns c = ap (λ (x : Nearest). x.gap) c.region_nearest.ensures

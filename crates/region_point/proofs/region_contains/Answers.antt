@@ -1,21 +1,15 @@
 -- `region_point::region_contains` meets its contract. Assumes nothing.
-use Prim.Native.Nat.{◌-◌}
-use mathlib.Core.Path.{sym, ◌∙◌}
-use Rattle.base.proofs.Laws.{no_round, goes_on, ends}
+use borrow.Author.Rules.{rules}
+use mathlib.Core.Path.{ap, ◌∙◌}
+use Rattle.base.specs.Loop.{rounds}
+use Rattle.offset.proofs.Chains.{fold_told}
 use Rattle.region.specs.Regions
 use Rattle.region.specs.Regions.{hole_points, hole_count, region_of}
-use borrow.Author.Rules.{rules}
 use Rattle.region_point.proofs.region_contains.Goals as goal
 
-pub loop-k-init : goal.loop-k-init
-loop-k-init c = (search rules, c.ring_contains-s.ensures ∙ sym (no_round _ _))
-
-pub loop-k-preserved : goal.loop-k-preserved
-unfolding Regions.contains_step hole_points hole_count region_of
-loop-k-preserved c =
-    let inv = c.loop-k.invariant in
-    (search rules, goes_on _ _ _ _ _ inv.1 c.contains_step-s.ensures)
-
 pub returns : goal.returns
-unfolding Regions.region_contains region_of
-returns c = ends _ _ _ _ _ c.loop-k.invariant.0 c.loop-k-test.false c.loop-k.invariant.1
+unfolding Regions.region_contains Regions.contains_step hole_points hole_count region_of
+returns c =
+    let a = c.args in
+    let step = Regions.contains_step (region_of a.ps.now a.n a.hs.now a.cs.now a.h) a.p in
+    fold_told step _ a.h _ _ c.fold.ensures.ran (λ s k b q e. search rules) ∙ ap (rounds step a.h) c.ring_contains.ensures

@@ -10,14 +10,14 @@ use borrow.Author.Rules.{rules}
 use Rattle.region_point.proofs.region_nearest.Goals as goal
 
 pub loop-k-init : goal.loop-k-init
-loop-k-init c = (search rules, c.ring_gap-s.ensures ∙ ap (gap_from _) (sym (no_round _ _)))
+loop-k-init c = c.ring_gap-s.ensures ∙ ap (gap_from _) (sym (no_round _ _))
 
 pub loop-k-preserved : goal.loop-k-preserved
 unfolding hole_points hole_count region_of
 loop-k-preserved c =
     let inv = c.loop-k.invariant in
-    (search rules, gap_goes_on _ _ _ _ _ _ inv.1 c.closest_step-s.ensures)
+    gap_goes_on _ _ _ _ _ _ inv c.closest_step-s.ensures
 
 pub returns : goal.returns
 unfolding Regions.closest_boundary_point region_of
-returns c = gap_ends _ _ _ _ _ _ c.loop-k.invariant.0 c.loop-k-test.false c.loop-k.invariant.1
+returns c = gap_ends _ _ _ _ _ _ c.loop-k.auto.k-end c.loop-k-test.false c.loop-k.invariant

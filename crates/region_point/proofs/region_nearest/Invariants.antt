@@ -9,7 +9,4 @@ use Rattle.region_point.specs.Gaps.{gap_from}
 use Rattle.region_point.proofs.region_nearest.Given as goal
 
 abbrev pub invariant-loop-k : goal.invariant-loop-k
-invariant-loop-k l = (l.k ≤ l.h) × (l.s ≡ gap_from l.p (rounds (Regions.closest_step (region_of l.ps l.n l.hs l.cs l.h) l.p) l.k (nearest l.ps l.n l.p).foot))
-
-abbrev pub decreases-loop-k : goal.decreases-loop-k
-decreases-loop-k l = l.h - l.k
+invariant-loop-k l = l.s ≡ gap_from l.p (rounds (Regions.closest_step (region_of l.ps l.n l.hs l.cs l.h) l.p) l.k (nearest l.ps l.n l.p).foot)

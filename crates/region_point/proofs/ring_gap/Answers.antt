@@ -4,5 +4,5 @@ use Rattle.region_point.proofs.ring_gap.Goals as goal
 
 pub returns : goal.returns
 returns c =
-    let nearest-to-gives = c.nearest_to-near.ensures in
+    let nearest-to-gives = c.nearest_to.ensures in
     gap_is _ _ _ _ c.distance_to.ensures nearest-to-gives

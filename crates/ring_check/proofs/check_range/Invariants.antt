@@ -1,5 +1,4 @@
 -- `ring_check::check_range` meets its contract. Assumes nothing.
-use Prim.Native.Nat.{◌-◌, ◌≤◌}
 use mathlib.Core.Path.{◌≡◌}
 use Rattle.base.specs.Loop.{rounds}
 use Rattle.error.specs.declared.Refusal.TheVariants.{Granted}
@@ -7,7 +6,4 @@ use Rattle.ring_check.specs.Checks
 use Rattle.ring_check.proofs.check_range.Given as goal
 
 abbrev pub invariant-loop-k : goal.invariant-loop-k
-invariant-loop-k l = (l.k ≤ l.n) × (rounds (Checks.range_step l.room l.index l.ps l.n) l.k Granted ≡ Granted)
-
-abbrev pub decreases-loop-k : goal.decreases-loop-k
-decreases-loop-k l = l.n - l.k
+invariant-loop-k l = rounds (Checks.range_step l.room l.index l.ps l.n) l.k Granted ≡ Granted

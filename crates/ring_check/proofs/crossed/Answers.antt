@@ -1,19 +1,12 @@
 -- `ring_check::crossed` meets its contract. Assumes nothing.
-use mathlib.Core.Path.{sym, ap}
-use Rattle.ring_cross.specs.declared.Crossing.{Crossing}
+use mathlib.Core.Path.{refl}
 use Rattle.ring_check.specs.Checks
 use Rattle.ring_check.proofs.crossed.Goals as goal
 
-pub returns-in-Simple : goal.returns-in-Simple
+pub returns-in-None : goal.returns-in-None
 unfolding Checks.crossed
-returns-in-Simple c =
-    let args = c.args in
-    sym (ap (λ (x : Crossing). Checks.crossed args.index args.n args.back x) c.in-Simple.is)
+returns-in-None c = rw c.in-None.is refl
 
-pub returns-in-Edges : goal.returns-in-Edges
+pub returns-in-Some : goal.returns-in-Some
 unfolding Checks.crossed
-returns-in-Edges c =
-    let less3-gives = c.less-second.ensures in
-    let less2-gives = c.less-first.ensures in
-    let less-gives = c.less-last.ensures in
-    simp (c.choose.ensures, less3-gives, less2-gives, less-gives, c.in-Edges.is)
+returns-in-Some c = rw (c.choose.ensures, c.in-Some.is, c.less.ensures, c.less-in-Some.ensures, c.less-last.ensures) refl

@@ -1,30 +1,13 @@
 -- `ring_check::hairline` meets its contract. Assumes nothing.
-use Prim.Native.Nat.{◌-◌}
-use mathlib.Core.Path.{sym}
-use mathlib.Core.Bool.{false}
-use Rattle.base.proofs.Laws.{no_round, ends}
-use Rattle.ring_check.specs.Checks
-use Rattle.ring_check.proofs.Exits.{hairline_not, hairline_here, starts}
 use borrow.Author.Rules.{rules}
+use mathlib.Core.Path.{refl}
+use lib.Ieee.{lt}
+use Rattle.plane.specs.Plane
+use Rattle.plane.specs.Points
+use Rattle.ring_check.specs.Checks
+use Rattle.ring_check.proofs.Exits.{any_told}
 use Rattle.ring_check.proofs.hairline.Goals as goal
 
-pub loop-k-init : goal.loop-k-init
-loop-k-init c = (search rules, λ l. c.vertex_at-a.ensures, no_round _ _)
-
-pub returns-then-short : goal.returns-then-short
-returns-then-short c =
-    let inv = c.loop-k.invariant in
-    let edge-end-gives = c.edge_end-b.ensures in
-    let short-gives = c.short.ensures in
-    hairline_here _ _ _ _ _ (inv.1 (search rules)) edge-end-gives _ short-gives (search rules) c.if-short.true
-
-pub loop-k-preserved : goal.loop-k-preserved
-loop-k-preserved c =
-    let edge-end-gives = c.edge_end-b.ensures in
-    let inv = c.loop-k.invariant in
-    let short-gives = c.short.ensures in
-    (search rules, λ l. starts _ _ _ _ edge-end-gives l, hairline_not _ _ _ _ _ (inv.1 (search rules)) edge-end-gives _ short-gives inv.2 c.if-short.false)
-
 pub returns : goal.returns
-unfolding Checks.hairline
-returns c = ends _ _ _ _ _ c.loop-k.invariant.0 c.loop-k-test.false (sym c.loop-k.invariant.2)
+unfolding Checks.hairline Checks.hairline_step Checks.short_edge
+returns c = any_told _ _ _ _ (λ a b. lt (Points.length_of (Plane.sub b a)) Checks.hairline_length) (λ k s. refl) (λ a b t h. search rules) _ c.any_edge.ensures

@@ -8,6 +8,6 @@ pub returns-then-x : goal.returns-then-x
 unfolding Walks.reaches
 returns-then-x c = first_tells _ _ c.if-x.true
 
-pub returns : goal.returns
+pub returns-else-x : goal.returns-else-x
 unfolding Walks.reaches
-returns c = second_tells _ _ _ c.if-x.false refl
+returns-else-x c = second_tells _ _ _ c.if-x.false refl

@@ -7,10 +7,8 @@ use Rattle.ring_check.proofs.wide.Goals as goal
 
 pub returns-then-reaches : goal.returns-then-reaches
 unfolding Walks.wide Plane.sub
-returns-then-reaches c = first_tells _ _ (sym c.reaches.ensures ∙ c.if-reaches.true)
+returns-then-reaches c = c.reaches.ensures ∙ first_tells _ _ (sym c.reaches.ensures ∙ c.if-reaches.true)
 
-pub returns : goal.returns
+pub returns-else-reaches : goal.returns-else-reaches
 unfolding Walks.wide Plane.sub
-returns c =
-    let east-gives = c.reaches.ensures in
-    second_tells _ _ _ (sym east-gives ∙ c.if-reaches.false) c.reaches-2.ensures
+returns-else-reaches c = second_tells _ _ _ (sym c.reaches.ensures ∙ c.if-reaches.false) c.reaches-else-reaches.ensures

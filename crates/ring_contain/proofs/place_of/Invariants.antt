@@ -1,5 +1,4 @@
 -- `ring_contain::place_of` meets its contract. Assumes nothing.
-use Prim.Native.Nat.{◌-◌, ◌≤◌}
 use mathlib.Core.Path.{◌≡◌}
 use Rattle.base.specs.Loop.{rounds}
 use Rattle.ring_contain.specs.Contains
@@ -9,7 +8,4 @@ use Rattle.plane.specs.declared.Containment.TheVariants.{Outside}
 use Rattle.ring_contain.proofs.place_of.Given as goal
 
 abbrev pub invariant-loop-k : goal.invariant-loop-k
-invariant-loop-k l = (l.k ≤ l.n) × (l.a ≡ start l.ps l.n l.k) × (odd l.inside ≡ rounds (Contains.contains_step l.ps l.n l.p) l.k Outside) × (l.p ≡ record { east = l.east; north = l.north })
-
-abbrev pub decreases-loop-k : goal.decreases-loop-k
-decreases-loop-k l = l.n - l.k
+invariant-loop-k l = (l.a ≡ start l.ps l.n l.k) × (odd l.inside ≡ rounds (Contains.contains_step l.ps l.n (record { east = l.east; north = l.north })) l.k Outside)

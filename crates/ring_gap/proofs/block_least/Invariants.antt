@@ -1,10 +1,6 @@
 -- `ring_gap::block_least` meets its contract. Assumes nothing.
-use Prim.Native.Nat.{◌-◌, ◌≤◌}
 use Rattle.ring_gap.specs.Blocks
 use Rattle.ring_gap.proofs.block_least.Given as goal
 
 abbrev pub invariant-loop-i : goal.invariant-loop-i
-invariant-loop-i l = Blocks.Run l.n l.from l.to × Blocks.Spans l.ps l.n l.from l.to l.frame × (l.i ≤ l.m) × Blocks.Least (Blocks.FromVertices l.ps l.n l.from l.to l.qs l.i) l.least l.s
-
-abbrev pub decreases-loop-i : goal.decreases-loop-i
-decreases-loop-i l = l.m - l.i
+invariant-loop-i l = Blocks.Least (Blocks.FromVertices l.ps l.n l.from l.to l.qs l.i) l.least l.s

@@ -1,6 +1,5 @@
 -- `ring_gap::least_from` meets its contract. Assumes nothing.
 use borrow.Author.Rules.{rules}
-use Prim.Native.Nat.{◌-◌}
 use Rattle.ring_gap.proofs.Walks.{blocks_none, blocks_on, blocks_all}
 use Rattle.ring_gap.proofs.least_from.Goals as goal
 

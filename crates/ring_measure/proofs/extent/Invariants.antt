@@ -1,5 +1,4 @@
 -- `ring_measure::extent` meets its contract. Assumes nothing.
-use Prim.Native.Nat.{◌-◌, ◌≤◌}
 use mathlib.Core.Path.{◌≡◌}
 use Rattle.base.specs.Loop.{rounds}
 use Rattle.math.specs.Number.{zero_float}
@@ -7,7 +6,4 @@ use Rattle.ring_measure.specs.Measures
 use Rattle.ring_measure.proofs.extent.Given as goal
 
 abbrev pub invariant-loop-k : goal.invariant-loop-k
-invariant-loop-k l = (l.k ≤ l.n) × (l.s ≡ rounds (Measures.extent_step l.ps) l.k zero_float)
-
-abbrev pub decreases-loop-k : goal.decreases-loop-k
-decreases-loop-k l = l.n - l.k
+invariant-loop-k l = l.s ≡ rounds (Measures.extent_step l.ps) l.k zero_float

@@ -1,5 +1,5 @@
 -- `ring_measure::signed_area` meets its contract. Assumes nothing.
-use Prim.Native.Nat.{◌-◌, ◌≤◌, ◌<◌}
+use Prim.Native.Nat.{◌<◌}
 use mathlib.Core.Path.{◌≡◌}
 use Rattle.math.specs.Number.{zero_float}
 use Rattle.plane.specs.Plane.{sub}
@@ -9,7 +9,4 @@ use Rattle.ring_measure.specs.Measures
 use Rattle.ring_measure.proofs.signed_area.Given as goal
 
 abbrev pub invariant-loop-k : goal.invariant-loop-k
-invariant-loop-k l = (l.k ≤ l.n) × (l.k < l.n → l.a ≡ sub (vertex_at l.ps l.k) l.first) × (l.s ≡ rounds (Measures.area_step l.ps l.n) l.k zero_float)
-
-abbrev pub decreases-loop-k : goal.decreases-loop-k
-decreases-loop-k l = l.n - l.k
+invariant-loop-k l = (l.k < l.n → l.a ≡ sub (vertex_at l.ps l.k) l.first) × (l.s ≡ rounds (Measures.area_step l.ps l.n) l.k zero_float)

@@ -1,5 +1,4 @@
 -- `ring_near::nearest_to` meets its contract. Assumes nothing.
-use Prim.Native.Nat.{◌-◌, ◌≤◌}
 use mathlib.Core.Path.{◌≡◌}
 use Rattle.base.specs.Loop.{rounds}
 use Rattle.ring_near.specs.Near
@@ -7,7 +6,4 @@ use Rattle.ring.proofs.Starts.{start}
 use Rattle.ring_near.proofs.nearest_to.Given as goal
 
 abbrev pub invariant-loop-k : goal.invariant-loop-k
-invariant-loop-k l = (l.k ≤ l.n) × (l.a ≡ start l.ps l.n l.k) × (l.s ≡ rounds (Near.lead_step l.ps l.n l.p) l.k (Near.no_lead l.p))
-
-abbrev pub decreases-loop-k : goal.decreases-loop-k
-decreases-loop-k l = l.n - l.k
+invariant-loop-k l = (l.a ≡ start l.ps l.n l.k) × (l.s ≡ rounds (Near.lead_step l.ps l.n l.p) l.k (Near.no_lead l.p))

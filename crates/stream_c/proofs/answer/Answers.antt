@@ -4,4 +4,4 @@ use Rattle.stream_c.proofs.answer.Goals as goal
 
 pub returns : goal.returns
 unfolding Calls.fed_answer
-returns c = simp c.new-c.ensures
+returns c = simp c.from-c.ensures

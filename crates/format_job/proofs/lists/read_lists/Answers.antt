@@ -2,41 +2,26 @@
 use Rattle.format_job.proofs.Tails.{no_counts, no_floats, short_counts, short_coordinates, all_read}
 use Rattle.format_job.proofs.lists.read_lists.Goals as goal
 
-pub returns-then-rest-coordinates : goal.returns-then-rest-coordinates
-returns-then-rest-coordinates c =
-    let read-counts-gives = c.read_counts.ensures in
-    let read-floats-gives = c.read_floats.ensures in
-    let counted = c.check_counts-found.ensures in
-    let formed = c.if-found.true in
-    let looked = c.check_floats-rest.ensures in
-    let whole = c.if-rest.true in
-    let few = c.if-rings-lengths.true in
-    let fewer = c.if-rest-coordinates.true in
-    all_read _ _ _ _ _ _ _ counted formed _ _ looked whole few fewer _ _ _ _ read-counts-gives _ _ read-floats-gives
+pub returns-in_default : goal.returns-in_default
+returns-in_default c = let r = c.refused.ensures in rw (r.refusal, r.count) (no_counts _ _ _ _ _ _ c.in_default.ensures)
 
-pub returns-then-rings-lengths : goal.returns-then-rings-lengths
-returns-then-rings-lengths c =
-    let yes3 = c.if-rings-lengths.true in
-    let counted = c.check_counts-found.ensures in
-    let formed = c.if-found.true in
-    let looked = c.check_floats-rest.ensures in
-    let whole = c.if-rest.true in
-    short_coordinates _ _ _ _ _ _ _ counted formed _ _ looked whole yes3 c.if-rest-coordinates.false
+pub returns-in_default-read_floats : goal.returns-in_default-read_floats
+returns-in_default-read_floats c =
+    let r = c.refused-in_default-read_floats.ensures in
+    rw (r.refusal, r.count) (no_floats _ _ _ _ _ _ _ c.in-Some.ensures _ c.in_default-read_floats.ensures)
 
-pub returns-then-rest : goal.returns-then-rest
-returns-then-rest c =
-    let check-counts-gives = c.check_counts-found.ensures in
-    let yes1 = c.if-found.true in
-    let check-floats-gives = c.check_floats-rest.ensures in
-    let yes2 = c.if-rest.true in
-    short_counts _ _ _ _ _ _ _ check-counts-gives yes1 _ _ check-floats-gives yes2 c.if-rings-lengths.false
+pub returns-then-lengths-rings : goal.returns-then-lengths-rings
+returns-then-lengths-rings c =
+    let r = c.refused-then-lengths-rings.ensures in
+    rw (r.refusal, r.count) (short_counts _ _ _ _ _ _ _ c.in-Some.ensures _ _ c.in-Some-read_floats.ensures c.if-lengths-rings.true)
 
-pub returns-then-found : goal.returns-then-found
-returns-then-found c =
-    let check-counts-gives = c.check_counts-found.ensures in
-    let yes1 = c.if-found.true in
-    let check-floats-gives = c.check_floats-rest.ensures in
-    no_floats _ _ _ _ _ _ _ check-counts-gives yes1 _ _ check-floats-gives c.if-rest.false
+pub returns-then-coordinates-count : goal.returns-then-coordinates-count
+returns-then-coordinates-count c =
+    let r = c.refused-then-coordinates-count.ensures in
+    rw (r.refusal, r.count)
+    (short_coordinates _ _ _ _ _ _ _ c.in-Some.ensures _ _ c.in-Some-read_floats.ensures c.if-lengths-rings.false c.if-coordinates-count.true)
 
 pub returns : goal.returns
-returns c = no_counts _ _ _ _ _ _ _ c.check_counts-found.ensures c.if-found.false
+returns c =
+    all_read _ _ _ _ _ _ _ c.in-Some.ensures _ _ c.in-Some-read_floats.ensures c.if-lengths-rings.false c.if-coordinates-count.false _ _ _
+    c.read_counts-2.ensures _ c.read_floats-2.ensures

@@ -1,28 +1,18 @@
 -- `format_job::walk::read_counts` meets its contract. Assumes nothing.
-use Prim.Native.Nat.{◌-◌}
 use mathlib.Core.Path.{refl}
-use Rattle.format_fields.proofs.Laws.{empty_count}
+use Rattle.format_numerals.specs.Readings.{no_count}
 use Rattle.format_job.proofs.Takes.{begins, took, walked, not_walked}
-use borrow.Author.Rules.{rules}
 use Rattle.format_job.proofs.walk.read_counts.Goals as goal
 
 pub loop-k-init : goal.loop-k-init
-loop-k-init c = (search rules, refl, begins _ _ 0 _ _ _ _ refl)
+loop-k-init c = begins _ _ _ _ _ _ refl
 
 pub loop-k-preserved : goal.loop-k-preserved
 loop-k-preserved c =
-    let count-at-gives = c.count_at-x.ensures in
-    let yes1 = c.if-x.true in
-    let put-count-gives = c.put_count.ensures in
-    let inv = c.loop-k.invariant in
-    (search rules, search rules, took _ _ 0 _ _ _ _ _ _ _ _ _ _ empty_count count-at-gives yes1 put-count-gives inv.2)
+    took _ _ _ _ _ _ _ _ _ _ no_count c.in_ok-x.ensures c.put.ensures c.loop-k.invariant
 
-pub returns-else-x : goal.returns-else-x
-returns-else-x c =
-    let going = c.loop-k-test.true in
-    let count-at-gives = c.count_at-x.ensures in
-    let inv = c.loop-k.invariant in
-    not_walked _ _ 0 _ _ _ _ _ _ _ _ _ _ _ going count-at-gives c.if-x.false inv.2
+pub returns-in_err-x : goal.returns-in_err-x
+returns-in_err-x c = rw c.from_residual.ensures (not_walked _ _ _ _ _ _ _ _ _ c.loop-k-test.true c.in_err-x.ensures c.loop-k.invariant)
 
 pub returns : goal.returns
-returns c = walked _ _ 0 _ _ _ _ _ _ _ c.loop-k.invariant.0 c.loop-k-test.false c.loop-k.invariant.2
+returns c = walked _ _ _ _ _ _ _ _ _ c.loop-k.auto.k-end c.loop-k-test.false c.loop-k.invariant

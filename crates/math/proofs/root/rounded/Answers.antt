@@ -14,28 +14,28 @@ picked : (c : After-fourth) →
     c.args.root) c.args.rest c.fourth.result
 picked c =
     let args = c.args in
-    let pick_gives = c.pick-digits.ensures in
-    subst (λ (g : ℕ). Fourth g args.rest c.fourth.result) pick_gives c.fourth.ensures
+    let digits-gives = c.choose-digits.ensures in
+    subst (λ (g : ℕ). Fourth g args.rest c.fourth.result) digits-gives c.fourth.ensures
 
 pub assemble-requires : goal.assemble-requires
 assemble-requires c =
-    let pick2-gives = c.pick-scale.ensures in
+    let scale-gives = c.choose-scale.ensures in
     let args = c.args in
     let fourth-result = c.fourth.result in
     record {
-      k_bound = subst (λ (k : ℕ). k ≤ 2046) (sym pick2-gives) (scale_le _ _ args.rest fourth-result c.requires.root_bound c.requires.bound (ltb args.root (2 ^ 54)) c.requires.x_bound);
-      parts = subst (Parts fourth-result) (sym pick2-gives) (parts_of _ _ args.rest fourth-result c.requires.root_bound c.requires.bound (ltb args.root (2 ^ 54)) refl (picked c));
+      k_bound = subst (λ (k : ℕ). k ≤ 2046) (sym scale-gives) (scale_le _ _ args.rest fourth-result c.requires.root_bound c.requires.bound (ltb args.root (2 ^ 54)) c.requires.x_bound);
+      parts = subst (Parts fourth-result) (sym scale-gives) (parts_of _ _ args.rest fourth-result c.requires.root_bound c.requires.bound (ltb args.root (2 ^ 54)) refl (picked c));
     }
 
 pub returns : goal.returns
 returns c =
     let args = c.args in
     let fourth-result = c.fourth.result in
-    let pick2-gives = c.pick-scale.ensures in
+    let scale-gives = c.choose-scale.ensures in
     let past-here = c.before in (
       c.assemble.ensures.0,
       λ (s : ℕ) (w : Twice s (2 * args.x) args.root args.rest).
           c.assemble.ensures.1
-          ∙ ap (units binary64 false fourth-result) pick2-gives
+          ∙ ap (units binary64 false fourth-result) scale-gives
           ∙ sym (rounded_of _ _ _ fourth-result c.requires.root_bound c.requires.bound (ltb args.root (2 ^ 54)) s refl (picked past-here) w),
     )

@@ -1,7 +1,7 @@
 -- `outline::store::outline_of` meets its contract. Assumes nothing.
 use Rattle.base.proofs.Choices.{no}
 use Rattle.error.specs.Refusals.{granted}
-use mathlib.Core.Bool.{true, false}
+use mathlib.Core.Bool.{true}
 use mathlib.Core.Path.{◌≡◌, sym, ◌∙◌}
 use Rattle.outline.specs.Outlines
 use Rattle.outline.proofs.store.outline_of.Goals as goal

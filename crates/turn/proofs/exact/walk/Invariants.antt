@@ -6,6 +6,3 @@ use Rattle.turn.proofs.exact.walk.Given as goal
 
 abbrev pub invariant-loop-k : goal.invariant-loop-k
 invariant-loop-k l = Walk (side_digit false l.s) (side_digit true l.s) l.from l.k l.left l.right
-
-abbrev pub decreases-loop-k : goal.decreases-loop-k
-decreases-loop-k l = l.k
