@@ -4,7 +4,7 @@
  * (`tools/library` builds both). The library is for x86-64 Linux. It allocates
  * nothing, keeps nothing between calls, calls nothing of yours, and may be
  * called from any number of threads at once. A job line takes 208 KB of stack,
- * a region's inset 191, an outline's offset 144, the check of a region 53, any
+ * a region's inset 191, an outline's offset 144, the check of a region 59, any
  * other question about a region 30, and anything else less than 3 KB (a KB is
  * 1,000 bytes).
  *

@@ -3,6 +3,8 @@ use Prim.Native.Nat.{ℕ}
 use mathlib.Core.Path.{◌≡◌, refl, ap, ◌∙◌}
 use mathlib.Core.Bool.{Bool, true, false, cond, not}
 use mathlib.Core.List.{List}
+use lib.Dec.{ltb}
+use lib.ListN.{get_or}
 use lib.Ieee.{Float}
 use Rattle.front.specs.declared.Edge.{Edge}
 use Rattle.front.specs.declared.Line.{Line}
@@ -10,7 +12,7 @@ use Rattle.std.specs.Prelude.{Option, Some, None}
 use Rattle.std.specs.Bool.{then_some}
 use Rattle.front.specs.declared.Moving.{Moving}
 use Rattle.front.specs.Lines.{velocity}
-use Rattle.front.specs.Edges.{edge, edge_line, vertex_by, vertex, length_from, edge_length}
+use Rattle.front.specs.Edges.{blank, unused, edge, edge_line, vertex_by, vertex, length_from, edge_length}
 use Rattle.front_lines.specs.Between.{length_between}
 
 -- nothing where a test holds, as the code says it
@@ -31,3 +33,16 @@ length_is f slot t = go (vertex f slot t)
     go : (x : Option Moving) → length_from f (edge f slot) t x ≡ length_between (edge f slot) x (vertex f (edge f slot).next t)
     go None = refl
     go (Some from) = refl
+
+-- a slot out of the front is read as the unused edge
+pub edge_read : (f : List Edge) (k : ℕ) → cond (ltb k 128) (get_or f (cond (ltb k 128) k 0) blank) unused ≡ edge f k
+unfolding edge
+edge_read f k = go (ltb k 128)
+  where
+    go : (b : Bool) → cond b (get_or f (cond b k 0) blank) unused ≡ cond b (get_or f k blank) unused
+    go true = refl
+    go false = refl
+
+-- so reads the code, which takes slot 0 in the place of one out of the front
+pub slot_read : (f : List Edge) (k i : ℕ) (e : Edge) → i ≡ cond (ltb k 128) k 0 → e ≡ cond (ltb k 128) (get_or f i blank) unused → e ≡ edge f k
+slot_read f k i e p q = q ∙ ap (λ (m : ℕ). cond (ltb k 128) (get_or f m blank) unused) p ∙ edge_read f k

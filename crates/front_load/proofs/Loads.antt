@@ -1,10 +1,11 @@
 -- A round of the loading of a ring, and where it stops. Assumes nothing.
 use Prim.Native.Nat.{ℕ, ◌+◌, ◌-◌, ◌≤◌, ◌<◌}
-use mathlib.Core.Bool.{Bool, true, false, cond}
+use mathlib.Core.Bool.{Bool, true, false, cond, ◌&&◌}
 use mathlib.Core.List.{List}
 use mathlib.Core.Path.{◌≡◌, refl, sym, ap, ◌∙◌}
 use native.Mathlib.Omega.{arith}
-use borrow.Author.Tests.{lt-ltb, le-ltb}
+use borrow.Author.Tests.{lt-ltb, le-ltb, ltb-true}
+use lib.Dec.{ltb}
 use lib.ListN.{set}
 use lib.Ieee.{Float}
 use Rattle.error.specs.declared.Refusal.{Refusal}
@@ -12,7 +13,7 @@ use Rattle.error.specs.declared.Refusal.TheVariants.{Granted, Slots, Collapses}
 use Rattle.error.specs.Refusals.{granted, number, values}
 use Rattle.error.proofs.Laws.{granted_is}
 use Rattle.base.specs.Loop.{rounds}
-use Rattle.base.proofs.Laws.{no_round, next_round, ends, stays_to, still}
+use Rattle.base.proofs.Laws.{no_round, next_round, ends, stays_to, still, rounds_keep}
 use Rattle.plane.specs.declared.PlanarPoint.{PlanarPoint}
 use Rattle.ring.specs.Ring.{following}
 use Rattle.front.specs.declared.Edge.{Edge}
@@ -20,7 +21,8 @@ use Rattle.front.specs.declared.Line.{Line}
 use Rattle.front.specs.declared.Loaded.{Loaded}
 use Rattle.std.specs.Prelude.{Option, None, Some}
 use Rattle.front.specs.Lines.{through}
-use Rattle.front.specs.Loading.{load_vertex, loaded_edge, has_room, load_line, load_edge, load_step, load_refused, ring_begun, load_ring}
+use Rattle.front.specs.Loading.{loaded_nothing, load_vertex, loaded_edge, has_room, load_line, load_edge, load_step, load_refused, ring_begun, load_ring}
+use Rattle.front_load.specs.Next.{fits, load_next}
 
 -- the front while a ring loads
 abbrev pub loaded_at : List Edge → ℕ → ℕ → Refusal → Loaded
@@ -93,3 +95,45 @@ module _ (ps : List Float) (n : ℕ) (back : Bool) (origin : PlanarPoint) (d : F
         load_refused s (Slots (s.used + (n - k))) ≡ load_ring ps n back origin d s₀
     unfolding load_line has_room granted number values
     stops_full e full x = stops (Slots (s.used + (n - k))) refl (round (Some e) x ∙ rw (le-ltb s.used 128 full) refl)
+
+-- ---- the next ring, for callers: where the numbers fit it is loaded, and they still fit
+
+pub next_is : (ps : List Float) (n : ℕ) (back : Bool) (origin : PlanarPoint) (d : Float) (s : Loaded) → s.used < 129 → s.rings < 129 → n < 129 →
+    load_next ps n back origin d s ≡ load_ring ps n back origin d s
+unfolding load_next fits
+next_is ps n back origin d s u r l = rw (lt-ltb s.used 129 u, lt-ltb s.rings 129 r, lt-ltb n 129 l) refl
+
+-- at most 128 slots are in use, in so many rings
+abbrev InUse : ℕ → Loaded → Type 0
+InUse r s = (s.used < 129) × (s.rings ≡ r)
+
+module _ (d : Float) (first n k r : ℕ) (a : PlanarPoint) (s : Loaded) (h : InUse r s) where
+  line_keeps : (x : Option Line) → InUse r (load_line d first n k a s x)
+  unfolding load_line load_refused has_room
+  line_keeps None = h
+  line_keeps (Some l) = go (ltb s.used 128) refl
+    where
+      go : (b : Bool) → ltb s.used 128 ≡ b →
+          InUse r (cond b
+          (loaded_at (set s.edges s.used (loaded_edge l first n k a)) (s.used + 1) s.rings Granted)
+          (loaded_at s.edges s.used s.rings (Slots (s.used + (n - k)))))
+      go true e = let i : s.used < 128 = ltb-true s.used 128 e in (omega arith, h.1)
+      go false e = h
+
+module _ (ps : List Float) (n : ℕ) (back : Bool) (origin : PlanarPoint) (d : Float) where
+  step_keeps : (first k r : ℕ) (s : Loaded) → InUse r s → InUse r (load_step ps n back origin d first k s)
+  unfolding load_step load_edge
+  step_keeps first k r s h = go (granted s.refusal)
+    where
+      go : (b : Bool) → InUse r (cond b (load_edge d first n k (load_vertex ps n back origin k) (load_vertex ps n back origin (following n k)) s) s)
+      go true = line_keeps d first n k r _ s h (through (load_vertex ps n back origin k) (load_vertex ps n back origin (following n k)))
+      go false = h
+
+  pub ring_keeps : (s : Loaded) → s.used < 129 → ((load_ring ps n back origin d s).used < 129) × ((load_ring ps n back origin d s).rings ≡ s.rings + 1)
+  unfolding load_ring ring_begun
+  ring_keeps s u =
+      rounds_keep (load_step ps n back origin d s.used) (λ m. InUse (s.rings + 1)) (ring_begun s) (u, refl) (λ k a h. step_keeps s.used k (s.rings + 1) a h) n
+
+pub nothing_in_use : (loaded_nothing.used < 129) × (loaded_nothing.rings ≡ 0)
+unfolding loaded_nothing
+nothing_in_use = (omega arith, refl)

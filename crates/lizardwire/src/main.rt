@@ -1,7 +1,7 @@
 // Job lines on standard input, one answer line a job on standard output.
 #![tactic(auto)]
 
-ghost use Rattle.std.specs.Prelude.{◌≤◌, ◌≡◌, length, IfOk, IfSome};
+ghost use Rattle.std.specs.Prelude.{◌≤◌, ◌≡◌, length, IfOk, IfSome, MatchOption};
 ghost use Rattle.lizardwire.specs.Program;
 
 use std::io;
@@ -63,6 +63,27 @@ fn end_input<W: Write>(held: &[u8], count: usize, out: &mut [u8], to: &mut W) ->
     to.write_all(&out[..last.used])
 }
 
+// What a read gave is taken: of no bytes the input's end is answered, None; of others the block, and how many bytes of a cut line are held.
+fn take_read<W: Write>(
+    part: &[u8],
+    held: &mut [u8],
+    count: usize,
+    out: &mut [u8],
+    to: &mut W,
+) -> io::Result<Option<usize>>
+    requires in_bounds { 16385 ≤ length held.old }
+    requires count_bound { count ≤ 16385 }
+    requires in_bounds_2 { 16385 ≤ length out.old }
+    ensures goes { IfOk result (λ o. MatchOption o (length part.now ≡ 0) (Program.BlockTaken part.now held.old count held.new)) }
+{
+    if part.len() == 0 {
+        end_input(held, count, out, to)?;
+        return Ok(None);
+    }
+    let have = feed_block(part, held, count, out, to)?;
+    Ok(Some(have))
+}
+
 // Reads once, and answers how many bytes of a cut line are held then; None at the end of the input.
 fn read_some<R: Read, W: Write>(
     from: &mut R,
@@ -78,12 +99,7 @@ fn read_some<R: Read, W: Write>(
     ensures { IfOk result (λ held. IfSome held (λ n. n ≤ 16385)) }
 {
     let n = from.read(block)?;
-    if n == 0 {
-        end_input(held, count, out, to)?;
-        return Ok(None);
-    }
-    let have = feed_block(&block[..n], held, count, out, to)?;
-    Ok(Some(have))
+    take_read(&block[..n], held, count, out, to)
 }
 
 // A proved loop has to end: it has more rounds than any run uses up.

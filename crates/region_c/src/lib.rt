@@ -54,16 +54,25 @@ pub(crate) fn inset_refused(r: Refusal) -> InsetWritten
     }
 }
 
-// A region that was made, to lent output: what its making refused, then 20.
+// A region that was made, to lent output: what its making refused, then 20. Its parts are taken out one by one: by `parts_of` it is copied.
 pub(crate) fn made_into(made: NewRegion, out: &mut [f64]) -> RegionWritten
     ensures answered { result ≡ Told.region_made made out.old }
     ensures written { out.new ≡ Told.region_over made out.old }
 {
-    if made.refusal.granted() {
-        let r = parts_of(&made.shape);
-        region_lent::write_region(r.ps, r.n, r.hs, r.cs, r.h, out)
+    let refusal = made.refusal;
+    if refusal.granted() {
+        let shape = made.shape;
+        let outer = shape.outer;
+        region_lent::write_region(
+            &outer.points,
+            outer.count,
+            &shape.points,
+            &shape.counts,
+            shape.holes,
+            out,
+        )
     } else {
-        region_lent::no_rings(made.refusal)
+        region_lent::no_rings(refusal)
     }
 }
 
@@ -184,23 +193,22 @@ pub fn perimeter(lengths: &[usize], ps: &[f64]) -> Measured
     region_ask::perimeter(r.ps, r.n, r.hs, r.cs, r.h)
 }
 
-// An outline that was read, to lent output: what its reading refused, then 20.
+// An outline that was read, to lent output: what its reading refused, then 20. Its parts are taken out first, else it is copied.
 #[tactic(auto, unfolding(outline_lent::specs::Direct::open_direct))]
 pub(crate) fn read_into(o: NewOutline, out: &mut [f64]) -> Counted
     ensures answered { result ≡ Direct.told o out.old }
     ensures written { out.new ≡ Direct.over_outline o out.old }
 {
-    if o.refusal.granted() {
-        let refusal = outline_lent::write_outline(&o.shape.points, o.shape.count, out);
+    let refusal = o.refusal;
+    if refusal.granted() {
+        let shape = o.shape;
+        let refusal = outline_lent::write_outline(&shape.points, shape.count, out);
         Counted {
             refusal,
-            count: base::choose(refusal.granted(), o.shape.count, 0),
+            count: base::choose(refusal.granted(), shape.count, 0),
         }
     } else {
-        Counted {
-            refusal: o.refusal,
-            count: 0,
-        }
+        Counted { refusal, count: 0 }
     }
 }
 
@@ -211,10 +219,12 @@ pub fn outer_into(lengths: &[usize], ps: &[f64], out: &mut [f64]) -> Counted
         out.old }
 {
     let made = region_stored::stored(lengths, ps);
+    let refusal = made.refusal;
+    let outer = made.shape.outer;
     read_into(
         NewOutline {
-            refusal: made.refusal,
-            shape: made.shape.outer,
+            refusal,
+            shape: outer,
         },
         out,
     )

@@ -2,12 +2,13 @@
 // are.
 #![tactic(auto)]
 
-ghost use Rattle.std.specs.Prelude.{◌≡◌, cond, ◌*◌, ◌≤◌, ltb, get_or, drop, length, set};
+ghost use Rattle.std.specs.Prelude.{◌≡◌, cond, ◌*◌, ltb, get_or, drop, length, set};
 ghost use Rattle.ring.specs.Store;
 ghost use Rattle.region.specs.Regions;
 ghost use Rattle.region.specs.Checks;
 ghost use Rattle.region.specs.Queries;
 ghost use Rattle.region_given.specs.Given;
+ghost use Rattle.region_given.specs.Filing;
 
 use error::Refusal;
 use outline::entry;
@@ -32,12 +33,17 @@ pub fn hole_points<'a>(hs: &'a [f64], k: usize) -> &'a [f64]
     }
 }
 
-// A ring of n vertices, stored from the vertex `base` of the flat numbers on, where they are. A vertex past the room is left out.
+// A ring of n vertices, stored from the vertex `base` of the flat numbers on, where they are. A vertex past the room is left out. Where the
+// base or the numbers are not those of a region's holes, nothing is stored.
 pub(crate) fn store_ring(ps: &[f64], n: usize, back: bool, base: usize, out: &mut [f64])
-    requires base_bound { base ≤ 256 }
-    requires out_len { length out.old ≡ 512 }
-    ensures { out.new ≡ Store.stored ps.now n back base out.old }
+    ensures { out.new ≡ Filing.filed ps.now n back base out.old }
 {
+    if 256 < base {
+        return;
+    }
+    if out.len() != 512 {
+        return;
+    }
     let room = 256 - base;
     for k in 0..n {
         let v = ring::stored_at(ps, n, back, k);
@@ -50,6 +56,7 @@ pub(crate) fn store_ring(ps: &[f64], n: usize, back: bool, base: usize, out: &mu
 }
 
 // A ring in the place of hole k: its numbers where they lie, and its count. One past the eighth is left out.
+#[tactic(auto, using(crate::proofs::Filed::filed_as))]
 pub fn put_hole(
     ps: &[f64],
     n: usize,

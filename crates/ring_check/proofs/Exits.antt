@@ -71,6 +71,12 @@ module _ (room ring n : ℕ) (ps : List Float) where
         let g : granted (vertex_refusal room ring n k v) ≡ false = not_granted (sym p ∙ t) in
         q ∙ sym (stays_to (range_step room ring ps n) Granted (vertex_refusal room ring n k v) (k + 1) n (omega arith) step (λ m. rw g refl))
 
+-- ---- an edge's test, which a walk over the edges asks
+
+module _ (ps : List Float) (n k : ℕ) (v w : PlanarPoint) (e : v ≡ vertex_at ps k) (f : w ≡ edge_end ps n k) where
+  pub asked : (test : PlanarPoint → PlanarPoint → Bool) {b c : Bool} → b ≡ test v w → b ≡ c → test (vertex_at ps k) (edge_end ps n k) ≡ c
+  asked test g t = ap (test (vertex_at ps k)) (sym f) ∙ ap (λ (z : PlanarPoint). test z w) (sym e) ∙ sym g ∙ t
+
 -- ---- what a walk over the edges tells by a test, whose answer is told to be `test`
 
 module _ (ps : List Float) (n : ℕ) (post : PlanarPoint → PlanarPoint → Bool → Type 0) where
